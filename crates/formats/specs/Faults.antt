@@ -1,0 +1,55 @@
+-- The line that tells why a command was not carried out, and the exit code.
+use Rattle.std.specs.Prelude.{ℕ, List, [], ◌∷◌, ◌++◌, codes, decimal}
+use Rattle.formats.specs.declared.HeadFault.{HeadFault}
+use Rattle.formats.specs.declared.HeadFault.TheVariants as head
+use Rattle.formats.specs.declared.Port.{Port}
+use Rattle.formats.specs.declared.Port.TheVariants as port
+use Rattle.formats.specs.declared.Status.{Status}
+use Rattle.formats.specs.declared.Status.TheVariants as status
+
+abbrev pub head_fault_text : HeadFault → List ℕ
+head_fault_text (head.NotPlain place) = codes "header not plain at byte " ++ decimal place
+head_fault_text head.ReadFault = codes "read fault"
+head_fault_text head.NoMemory = codes "no memory"
+
+abbrev pub port_text : Port → List ℕ
+port_text port.Node = codes "node"
+port_text port.Ele = codes "ele"
+port_text port.Report = codes "report"
+port_text port.Trouble = codes "trouble"
+
+abbrev pub status_text : Status → List ℕ
+status_text status.Done = []
+status_text (status.BadWords place) = codes "bad words at " ++ decimal place
+status_text (status.BadHeader fault) = head_fault_text fault
+status_text (status.TooLarge padded) = codes "too large: " ++ decimal padded
+status_text (status.Truncated got wanted) = codes "truncated: " ++ (decimal got ++ (codes " of " ++ (decimal wanted ++ codes " bytes")))
+status_text status.ReadFault = codes "read fault"
+status_text (status.WriteFault p) = codes "write fault: " ++ port_text p
+status_text status.NoMemory = codes "no memory"
+
+-- the line of a status other than Done
+abbrev pub fault_line : Status → List ℕ
+fault_line s = codes "stuff: " ++ (status_text s ++ (10 ∷ []))
+
+-- what is written to Trouble after a status: nothing after Done
+abbrev pub trouble_text : Status → List ℕ
+trouble_text status.Done = []
+trouble_text s = fault_line s
+
+-- the exit code of a status
+abbrev pub status_code : Status → ℕ
+status_code status.Done = 0
+status_code (status.BadWords place) = 2
+status_code (status.BadHeader fault) = 3
+status_code (status.TooLarge padded) = 5
+status_code (status.Truncated got wanted) = 6
+status_code status.ReadFault = 7
+status_code (status.WriteFault p) = 8
+status_code status.NoMemory = 9
+
+-- the status of a head that is refused
+abbrev pub status_of : HeadFault → Status
+status_of head.ReadFault = status.ReadFault
+status_of head.NoMemory = status.NoMemory
+status_of fault = status.BadHeader fault

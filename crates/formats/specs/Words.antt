@@ -1,0 +1,105 @@
+-- The words of the command line, as a grammar of whole lists.
+use Rattle.std.specs.Prelude.{◌≡◌, ℕ, ◌+◌, ◌*◌, ◌^◌, ◌<◌, ◌≤◌, Bool, true, ◌||◌, IsTrue, List, [], ◌∷◌, ◌++◌, length, take, count_by, codes, decimal, ◌⊎◌, option_map, find, unwrap_or, nat_lt, ℤ, pos, neg_ℤ}
+use Rattle.std.specs.List.{AllZip, list_any, list_all}
+
+-- the names of named words
+pub data Name : Type 0 where
+  Level : Name
+
+abbrev pub same_name : Name → Name → Bool
+same_name Level Level = true
+
+abbrev pub name_text : Name → List ℕ
+name_text Level = codes "level="
+
+-- The text is a number in halves, and `twice` is twice that number: a whole number below 2^32 without a sign or a leading zero, and then nothing, `.0` or `.5`.
+abbrev pub IsHalves : List ℕ → ℕ → Type 0
+IsHalves text twice =
+    (n : ℕ) × (n < 2 ^ 32) × (((text ≡ decimal n) × (twice ≡ 2 * n)) ⊎ (((text ≡ decimal n ++ codes ".0") × (twice ≡ 2 * n)) ⊎ ((text ≡ decimal n ++ codes ".5") × (twice ≡ 2 * n + 1))))
+
+-- the same with an optional minus sign
+abbrev pub IsLevel : List ℕ → ℤ → Type 0
+IsLevel text twice =
+    (m : ℕ) × ((IsHalves text m × (twice ≡ pos m)) ⊎ ((rest : List ℕ) × (text ≡ codes "-" ++ rest) × IsHalves rest m × (twice ≡ neg_ℤ (pos m))))
+
+-- What may stand behind a name, and the number that it says.
+abbrev pub IsValue : Name → List ℕ → ℤ → Type 0
+IsValue Level text value = IsLevel text value
+
+-- a named word, read
+pub record Setting : Type 0 where
+  pub name : Name
+  pub value : ℤ
+
+pub record ReadsSetting (word : List ℕ) (s : Setting) : Type 0 where
+  pub text : List ℕ
+  pub word_is : word ≡ name_text s.name ++ text
+  pub value_is : IsValue s.name text s.value
+
+-- the commands
+pub data Verb : Type 0 where
+  Count : Verb
+
+abbrev pub verb_text : Verb → List ℕ
+verb_text Count = codes "count"
+
+-- how many file names follow
+abbrev pub file_count : Verb → ℕ
+file_count Count = 1
+
+-- the names that must be there, and those that may
+abbrev pub required : Verb → List Name
+required Count = Level ∷ []
+
+abbrev pub optional : Verb → List Name
+optional Count = []
+
+abbrev pub is_among : List Name → Name → Bool
+is_among names n = list_any (same_name n) names
+
+abbrev pub is_of : Name → Setting → Bool
+is_of n s = same_name n s.name
+
+abbrev pub is_set : List Setting → Name → Bool
+is_set settings n = list_any (is_of n) settings
+
+-- the settings of a command: each name at most once, no other names, and those that must be there
+pub record IsComplete (v : Verb) (settings : List Setting) : Type 0 where
+  pub once : (n : Name) → count_by (is_of n) settings ≤ 1
+  pub known : IsTrue (list_all (λ s. is_among (required v) s.name || is_among (optional v) s.name) settings)
+  pub there : IsTrue (list_all (is_set settings) (required v))
+
+-- what a name is set to, or its default
+abbrev pub value_or : List Setting → Name → ℤ → ℤ
+value_or settings n default = unwrap_or (option_map (λ (s : Setting). s.value) (find (is_of n) settings)) default
+
+-- A command. File names are the numbers of their words, and a level is given as twice the level.
+pub data Command : Type 0 where
+  CountSigns : (input : ℕ) (level : ℤ) → Command
+
+abbrev pub command_of : Verb → List Setting → Command
+command_of Count s = CountSigns 1 (value_or s Level (pos 0))
+
+-- A list of words reads as a command: the verb, the file names, and named words in any order.
+pub record Reads (words : List (List ℕ)) (c : Command) : Type 0 where
+  pub verb : Verb
+  pub files : List (List ℕ)
+  pub named : List (List ℕ)
+  pub settings : List Setting
+  pub words_are : words ≡ verb_text verb ∷ (files ++ named)
+  pub files_len : length files ≡ file_count verb
+  pub files_named : IsTrue (list_all (λ f. nat_lt 0 (length f)) files)
+  pub named_are : AllZip ReadsSetting named settings
+  pub complete : IsComplete verb settings
+  pub command_is : c ≡ command_of verb settings
+
+-- some list of the grammar begins with these words
+abbrev pub Begins : List (List ℕ) → Type 0
+Begins words = (rest : List (List ℕ)) × (c : Command) × Reads (words ++ rest) c
+
+-- The place of bad words: the words before it begin a list of the grammar, and with the word at it none does. It is the number of words where all of them begin one.
+pub record IsBadPlace (words : List (List ℕ)) (n : ℕ) : Type 0 where
+  pub unread : (c : Command) → Reads words c → ⊥
+  pub within : n ≤ length words
+  pub begins : Begins (take n words)
+  pub ends : n < length words → Begins (take (n + 1) words) → ⊥

@@ -1,0 +1,124 @@
+//! The plain types of the files and of the command line: heads, their faults, and how a command ends.
+//! What the texts are, and what they mean, stands in specs/.
+#![tactic(auto)]
+
+ghost use Rattle.std.specs.Prelude.{◌≡◌};
+ghost use Rattle.formats.specs.Faults.{status_code};
+
+/// The type of a sample.
+#[derive(Clone, Copy, Debug, PartialEq, Eq)]
+pub enum Kind {
+    Uchar,
+    Char,
+    Ushort,
+    Short,
+    Uint,
+    Int,
+}
+
+/// A line of the plain head. The thirteen of them stand in this order.
+#[derive(Clone, Copy, Debug, PartialEq, Eq)]
+pub enum HeadLine {
+    ObjectType,
+    Dimensions,
+    BinaryData,
+    ByteOrder,
+    CompressedData,
+    TransformMatrix,
+    Offset,
+    CenterOfRotation,
+    AnatomicalOrientation,
+    ElementSpacing,
+    Sizes,
+    ElementType,
+    DataFile,
+}
+
+/// What a head says: the raw sizes on the three axes, each from 1 to 999,999,999, the type of the
+/// samples, and whether the most significant byte of a sample comes first.
+#[derive(Clone, Copy, Debug, PartialEq, Eq)]
+pub struct Head {
+    pub raw: [u32; 3],
+    pub kind: Kind,
+    pub big: bool,
+}
+
+/// Why there is no head. `place` is the number of bytes before the first line that is not the plain
+/// head's.
+#[derive(Clone, Copy, Debug, PartialEq, Eq)]
+pub enum HeadFault {
+    NotPlain { place: u64 },
+    ReadFault,
+    NoMemory,
+}
+
+/// Where a text is written: the nodes, the tetrahedra, the report, or what went wrong.
+#[derive(Clone, Copy, Debug, PartialEq, Eq)]
+pub enum Port {
+    Node,
+    Ele,
+    Report,
+    Trouble,
+}
+
+/// How a command ended.
+#[derive(Clone, Copy, Debug, PartialEq, Eq)]
+pub enum Status {
+    /// The command was carried out.
+    Done,
+    /// The words are not in the grammar. `place` is the number of the first word with which no
+    /// command goes on, or the number of words.
+    BadWords { place: u64 },
+    /// The input has no head that can be read.
+    BadHeader { fault: HeadFault },
+    /// A size is above its limit. `padded` is the product of the sizes with two more on each axis.
+    TooLarge { padded: u128 },
+    /// The input ends before the last sample, after `got` of `wanted` bytes.
+    Truncated { got: u64, wanted: u64 },
+    /// The input could not be opened or read.
+    ReadFault,
+    /// A port could not be opened, written or finished.
+    WriteFault { port: Port },
+    /// Memory ran out.
+    NoMemory,
+}
+
+impl Status {
+    /// The code that the process ends with.
+    pub fn code(&self) -> u8
+        ensures { result ≡ status_code self.now }
+    {
+        match self {
+            Status::Done => 0,
+            Status::BadWords { .. } => 2,
+            Status::BadHeader { .. } => 3,
+            Status::TooLarge { .. } => 5,
+            Status::Truncated { .. } => 6,
+            Status::ReadFault => 7,
+            Status::WriteFault { .. } => 8,
+            Status::NoMemory => 9,
+        }
+    }
+}
+
+/// How large a volume may be: each raw size, and the product of the kept sizes with two more on each
+/// axis.
+#[derive(Clone, Copy, Debug, PartialEq, Eq)]
+pub struct Limits {
+    pub dimension: u32,
+    pub padded: u64,
+}
+
+impl Limits {
+    ghost use Rattle.formats.specs.Volumes.{first_limits};
+
+    /// Raw sizes up to 8,192, and a product up to 4,194,304.
+    pub fn first() -> Limits
+        ensures { result ≡ first_limits }
+    {
+        Limits {
+            dimension: 8192,
+            padded: 4_194_304,
+        }
+    }
+}

@@ -1,0 +1,5 @@
+pub mod Causes
+pub mod Desk
+pub use Rattle.definitions.specs.Lattice
+pub use Rattle.definitions.specs.Values
+pub use Rattle.formats.specs.Volumes

@@ -1,0 +1,92 @@
+ghost use Rattle.std.specs.Prelude.{◌≡◌, ◌<◌, length, slice_index_or, pos};
+ghost use Rattle.definitions.specs.Values.{number_at};
+ghost use Rattle.formats.specs.Volumes.{IsVolume};
+
+use definitions::Dims;
+use formats::Kind;
+use std::marker::Model;
+
+fn number(numbers: &[i64], n: usize) -> i64
+    requires { n < length numbers.now }
+    ensures { result ≡ slice_index_or numbers.now n (pos 0) }
+{
+    numbers[n]
+}
+
+/// An image: the kept sizes, the step with which they were kept, the type of the samples, and the
+/// samples with x fastest, then y, then z.
+///
+/// The padded product `(nx + 2) * (ny + 2) * (nz + 2)` is at most 67,108,864, there are as many
+/// samples as places, each in its type's range, and the step is 1 to 64.
+#[derive(Drop)]
+pub struct Volume {
+    dims: Dims,
+    step: u32,
+    kind: Kind,
+    samples: Vec<i64>,
+}
+
+impl Model for Volume {
+    ghost use Rattle.formats.specs.Volumes.{Volume as VolumeValue, IsVolume};
+
+    ghost Value = { VolumeValue };
+
+    ghost view = { λ v. record { dims = v.dims; step = v.step; kind = v.kind; samples = v.samples.items } };
+
+    ghost invariant = { λ v. IsVolume (record { dims = v.dims; step = v.step; kind = v.kind; samples = v.samples.items }) };
+}
+
+impl Volume {
+    /// The volume of these samples.
+    pub fn new(dims: Dims, step: u32, kind: Kind, samples: Vec<i64>) -> Volume
+        requires { IsVolume (record { dims = dims; step = step; kind = kind; samples = samples.items }) }
+        ensures { result ≡ record { dims = dims; step = step; kind = kind; samples = samples.items } }
+    {
+        Volume {
+            dims,
+            step,
+            kind,
+            samples,
+        }
+    }
+
+    /// The kept sizes.
+    pub fn dims(&self) -> Dims
+        ensures { result ≡ self.now.dims }
+    {
+        self.dims
+    }
+
+    /// Every how many raw samples one was kept, on each axis.
+    pub fn step(&self) -> u32
+        ensures { result ≡ self.now.step }
+    {
+        self.step
+    }
+
+    /// The type of the samples.
+    pub fn kind(&self) -> Kind
+        ensures { result ≡ self.now.kind }
+    {
+        self.kind
+    }
+
+    /// All samples, x fastest.
+    pub fn samples(&self) -> &[i64]
+        ensures value { result.now ≡ self.now.samples }
+        ensures volume { IsVolume self.now }
+    {
+        self.samples.as_slice()
+    }
+
+    /// The sample at a place in the image.
+    pub fn sample(&self, i: u32, j: u32, k: u32) -> i64
+        requires x { i < self.now.dims.nx }
+        requires y { j < self.now.dims.ny }
+        requires z { k < self.now.dims.nz }
+        ensures { result ≡ number_at self.now.dims self.now.samples i j k }
+    {
+        let row = k as usize * self.dims.ny as usize + j as usize;
+        number(&self.samples, row * self.dims.nx as usize + i as usize)
+    }
+}
