@@ -1,0 +1,8 @@
+//! What the samples of an image say at the vertices of the body-centred cubic lattice: values and signs.
+#![tactic(auto)]
+
+mod field;
+mod level;
+
+pub use field::Field;
+pub use level::Level;
