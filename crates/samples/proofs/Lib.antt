@@ -1,2 +1,4 @@
 pub mod Sizes
 pub mod ValuesAt
+pub mod Sums
+pub mod SignCounts
