@@ -8,6 +8,10 @@ use Rattle.command_words.specs.declared.command.Command.TheVariants.{Count}
 abbrev pub meaning_of : Command → Meaning
 meaning_of (Count input level) = CountSigns input level
 
+-- the number of the word that names the input
+abbrev pub input_of : Command → ℕ
+input_of (Count input level) = input
+
 -- the word names a level
 abbrev pub IsLevelWord : List ℕ → ℤ → Type 0
 IsLevelWord word twice = (text : List ℕ) × (word ≡ codes "level=" ++ text) × IsLevel text twice

@@ -1,6 +1,6 @@
 ghost use Rattle.std.specs.Prelude.{◌≡◌, ◌<◌, ℤ, List, ℕ, [], length, slice_index_or, Some, IfSome, IfNone, IfOk, IfErr};
 ghost use Rattle.formats.specs.Words.{Reads, IsBadPlace, Command as Meaning};
-ghost use Rattle.command_words.specs.Commands.{IsLevelWord, is_word as is_word_lem, is_name as is_name_lem, meaning_of};
+ghost use Rattle.command_words.specs.Commands.{IsLevelWord, is_word as is_word_lem, input_of, is_name as is_name_lem, meaning_of};
 
 use crate::ends::after_start;
 use crate::numbers::level;
@@ -55,6 +55,7 @@ fn level_at(words: &Words, n: usize) -> Option<Level>
 /// which no command goes on, or of words where all of them begin one.
 pub fn read_words(words: &Words) -> Result<Command, u64>
     ensures command { IfOk result (λ c. Reads words.now (meaning_of c)) }
+    ensures input { IfOk result (λ c. input_of c < length words.now) }
     ensures place { IfErr result (λ place. IsBadPlace words.now place) }
 {
     if !is_word(words, 0, b"count") {
