@@ -10,3 +10,4 @@ mod samples;
 mod volumes;
 
 pub use plain::read_head;
+pub use volumes::{VolFault, read_volume};

@@ -12,3 +12,4 @@ pub mod NoTetrahedra
 pub mod Unsound
 pub mod Layouts
 pub mod RandomFields
+pub mod PlainHeads
