@@ -111,3 +111,6 @@ pub fn count_signs(field: &Field) -> Signs
     }
     signs
 }
+
+#[cfg(test)]
+mod tests;

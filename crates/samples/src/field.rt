@@ -35,7 +35,7 @@ impl Model for Field {
 /// What is the same in all of a row of corners along x: where its nearest samples start, and whether
 /// it runs through the image.
 #[derive(Clone, Copy)]
-pub(crate) struct Row {
+struct Row {
     start: usize,
     inside: bool,
 }
@@ -60,7 +60,7 @@ impl Field {
         self.dims
     }
 
-    pub(crate) fn row(&self, j: u32, k: u32) -> Row
+    fn row(&self, j: u32, k: u32) -> Row
         ensures start { result.start ≡ row_start self.now.dims j k }
         ensures inside { result.inside ≡ is_row_inside self.now.dims j k }
         ensures room { result.start + self.now.dims.nx ≤ length self.now.differences }
@@ -74,7 +74,7 @@ impl Field {
     }
 
     #[tactic(auto, unfolding(crate::specs::Rows::difference_along))]
-    pub(crate) fn difference_along(&self, row: Row, i: u32) -> i64
+    fn difference_along(&self, row: Row, i: u32) -> i64
         requires room { row.start + self.now.dims.nx ≤ length self.now.differences }
         ensures value { result ≡ difference_along self.now row.start row.inside i }
         ensures small { unsigned_abs result < 2 ^ 34 }
@@ -252,15 +252,7 @@ fn padded(inside: bool, near: i64) -> i64
     ensures value { result ≡ if inside then near else neg_ℤ (pos (max 1 (unsigned_abs near))) }
     ensures small { unsigned_abs result < 2 ^ 34 }
 {
-    if inside {
-        near
-    } else if near == 0 {
-        -1
-    } else if near < 0 {
-        near
-    } else {
-        -near
-    }
+    if inside { near } else { -near.abs().max(1) }
 }
 
 fn sign_of(value: i64) -> Sign
