@@ -1,0 +1,4 @@
+pub mod HeldUnder
+pub mod Parts
+pub mod Meanings
+pub mod SteadyMeanings

@@ -1,0 +1,76 @@
+ghost use Rattle.std.specs.Prelude.{◌≡◌, ◌<◌, length, Ok, IfOk, IfSome};
+ghost use Rattle.std.specs.Io.{ReadsAtMost, WritesAtMost};
+
+use st_base::Failed;
+use std::fs::OpenOptions;
+use std::io::{self, ErrorKind, Read, Write};
+use std::rt::Files;
+use std::str;
+
+/// How often a call is made that is interrupted each time: once, and 1,000 times again.
+const TRIES: u32 = 1001;
+
+/// What a call came to, or `None` where it was interrupted.
+fn settled<T: Drop>(answer: io::Result<T>) -> Option<Result<T, Failed>>
+    ensures { IfSome result (λ done. IfOk done (λ value. answer ≡ Ok value)) }
+{
+    match answer {
+        Ok(value) => Some(Ok(value)),
+        Err(error) if error.kind() == ErrorKind::Interrupted => None,
+        Err(_) => Some(Err(Failed)),
+    }
+}
+
+/// Opens the file of this name. A name that is not UTF-8 is refused.
+pub fn open_file<R: Files>(
+    files: &R,
+    options: &OpenOptions,
+    name: &[u8],
+) -> Result<R::File, Failed> {
+    let Ok(path) = str::from_utf8(name) else {
+        return Err(Failed);
+    };
+    for _ in 0..TRIES {
+        if let Some(done) = settled(options.open(files, path)) {
+            return done;
+        }
+    }
+    Err(Failed)
+}
+
+/// One read.
+pub fn read_some<F: Read>(file: &mut F, into: &mut [u8]) -> Result<usize, Failed>
+    ensures { ReadsAtMost result into.new }
+{
+    for _ in 0..TRIES {
+        if let Some(done) = settled(file.read(into)) {
+            return done;
+        }
+    }
+    Err(Failed)
+}
+
+/// One write, which fails where it takes none of the bytes that there are.
+pub fn write_some<F: Write>(file: &mut F, bytes: &[u8]) -> Result<usize, Failed>
+    ensures bound { WritesAtMost result bytes.now }
+    ensures some { 0 < length bytes.now → IfOk result (λ n. 0 < n) }
+{
+    for _ in 0..TRIES {
+        match settled(file.write(bytes)) {
+            Some(Ok(0)) if !bytes.is_empty() => return Err(Failed),
+            Some(done) => return done,
+            None => {}
+        }
+    }
+    Err(Failed)
+}
+
+/// Passes on what a writer holds back.
+pub fn flush<F: Write>(file: &mut F) -> Result<(), Failed> {
+    for _ in 0..TRIES {
+        if let Some(done) = settled(file.flush()) {
+            return done;
+        }
+    }
+    Err(Failed)
+}
