@@ -12,6 +12,10 @@ meaning_of (Count input level) = CountSigns input level
 abbrev pub input_of : Command → ℕ
 input_of (Count input level) = input
 
+-- twice its level
+abbrev pub level_of : Command → ℤ
+level_of (Count input level) = level
+
 -- the word names a level
 abbrev pub IsLevelWord : List ℕ → ℤ → Type 0
 IsLevelWord word twice = (text : List ℕ) × (word ≡ codes "level=" ++ text) × IsLevel text twice

@@ -1,6 +1,6 @@
 ghost use Rattle.std.specs.Prelude.{◌≡◌, ◌<◌, ℤ, List, ℕ, [], length, slice_index_or, Some, IfSome, IfNone, IfOk, IfErr};
 ghost use Rattle.formats.specs.Words.{Reads, IsBadPlace, Command as Meaning};
-ghost use Rattle.command_words.specs.Commands.{IsLevelWord, is_word as is_word_lem, input_of, is_name as is_name_lem, meaning_of};
+ghost use Rattle.command_words.specs.Commands.{IsLevelWord, is_word as is_word_lem, input_of, level_of, is_name as is_name_lem, meaning_of};
 
 use crate::ends::after_start;
 use crate::numbers::level;
@@ -12,6 +12,26 @@ use st_base::Words;
 pub enum Command {
     /// Count the signs of the vertices of a volume at a level, before any is moved.
     Count { input: usize, level: Level },
+}
+
+impl Command {
+    /// The number of the word that names the input.
+    pub fn input(&self) -> usize
+        ensures { result ≡ input_of self.now }
+    {
+        match self {
+            Command::Count { input, .. } => *input,
+        }
+    }
+
+    /// The level.
+    pub fn level(&self) -> Level
+        ensures { result ≡ level_of self.now }
+    {
+        match self {
+            Command::Count { level, .. } => *level,
+        }
+    }
 }
 
 // The level that a word names.

@@ -1,0 +1,74 @@
+-- Texts that grow in pieces.
+use Rattle.std.proofs.Common.{◌≡◌, ℕ, ◌+◌, ◌-◌, zero, suc, zero-add, List, [], ◌∷◌, ◌++◌, length, take, drop, Option, Some, None, refl, ap, sym, ◌∙◌, arith, append_assoc, length-drop, length-append, subst}
+use Rattle.std.proofs.lemmas.Grind.{common_steps}
+use Rattle.std.proofs.lemmas.List.{take_all}
+use Rattle.std.specs.Io.KnownBytes.{Appends}
+use Rattle.std.proofs.lemmas.List.{take-append-le}
+use Rattle.std.proofs.Math.Seq.{take-append-add}
+use Rattle.st_base.specs.Desk.{AppendsPart}
+use Rattle.std.specs.Prelude.{OnOk, OnErr}
+use Rattle.st_base.specs.Causes.{HasCause}
+use Rattle.formats.specs.Faults.{fault_line, trouble_text}
+use Rattle.formats.specs.declared.Status.{Status}
+use Rattle.formats.specs.declared.Status.TheVariants.{Done, BadWords, BadHeader, TooLarge, Truncated, ReadFault, WriteFault, NoMemory}
+use Rattle.std.specs.declared.result.Result.{Result}
+use Rattle.std.specs.declared.result.Result.TheVariants.{Ok, Err}
+
+pub appends_trans : (a b c : Option (List ℕ)) (xs ys zs : List ℕ) → Appends a b xs → Appends b c ys → zs ≡ xs ++ ys → Appends a c zs
+appends_trans None b c xs ys zs h k e = tt
+appends_trans (Some xas) None c xs ys zs h k e = absurd h
+appends_trans (Some xas) (Some bs) None xs ys zs h k e = absurd k
+appends_trans (Some xas) (Some bs) (Some cs) xs ys zs h k e =
+    k ∙ ap (λ (t : List ℕ). t ++ ys) h ∙ append_assoc xas xs ys ∙ ap (λ (t : List ℕ). xas ++ t) (sym e)
+
+take_plus : (i n : ℕ) (xs : List ℕ) → take (i + n) xs ≡ take i xs ++ take n (drop i xs)
+take_plus zero n xs = rw zero-add refl
+take_plus (suc i) n [] = grind (arith, common_steps)
+take_plus (suc i) n (x ∷ xs) =
+    let e : suc i + n ≡ suc (i + n) = omega arith in
+    rw e (ap (λ (t : List ℕ). x ∷ t) (take_plus i n xs))
+
+pub take_more : (i n : ℕ) (xs : List ℕ) → take (i + n) xs ≡ take i xs ++ take n (take (length xs - i) (drop i xs))
+take_more i n xs =
+    let e : take (length xs - i) (drop i xs) ≡ drop i xs = take_all (length xs - i) (drop i xs) (omega (arith, length-drop i xs)) in
+    take_plus i n xs ∙ ap (λ (t : List ℕ). take i xs ++ take n t) (sym e)
+
+pub part_left : (a b : Option (List ℕ)) (xs ys : List ℕ) → AppendsPart a b xs → AppendsPart a b (xs ++ ys)
+part_left a b xs ys p =
+    let e : take p.0 xs ≡ take p.0 (xs ++ ys) = sym (take-append-le p.0 xs ys p.1) in
+    (p.0, omega (arith, p.1, length-append xs ys), subst (λ (t : List ℕ). Appends a b t) e p.2)
+
+pub part_right : (a b c : Option (List ℕ)) (xs ys : List ℕ) → Appends a b xs → AppendsPart b c ys → AppendsPart a c (xs ++ ys)
+part_right a b c xs ys h p =
+    (length xs + p.0, omega (arith, p.1, length-append xs ys), appends_trans a b c xs (take p.0 ys) (take (length xs + p.0) (xs ++ ys)) h p.2 (take-append-add xs ys p.0))
+
+pub part_right_on : {T E : Type 0} (r : Result T E) (a b c : Option (List ℕ)) (xs ys : List ℕ) → Appends a b xs → OnErr r (AppendsPart b c ys) → OnErr r (AppendsPart a c (xs ++ ys))
+part_right_on (Ok x) a b c xs ys h p = tt
+part_right_on (Err e) a b c xs ys h p = part_right a b c xs ys h p
+
+-- a list that grows by one part after another
+pub two_parts : (line mid end a b : List ℕ) → mid ≡ line ++ a → end ≡ mid ++ b → end ≡ line ++ (a ++ b)
+two_parts line mid end a b e f = f ∙ ap (λ (t : List ℕ). t ++ b) e ∙ append_assoc line a b
+
+-- all of it is a front of it
+all_is_part : (a b : Option (List ℕ)) (xs : List ℕ) → Appends a b xs → AppendsPart a b xs
+all_is_part a b xs h = (length xs, omega arith, subst (λ (t : List ℕ). Appends a b t) (sym (take_all (length xs) xs (omega arith))) h)
+
+pub part_whatever : {T E : Type 0} (r : Result T E) (a b : Option (List ℕ)) (xs : List ℕ) → OnOk r (Appends a b xs) → OnErr r (AppendsPart a b xs) → AppendsPart a b xs
+part_whatever (Ok x) a b xs all part = all_is_part a b xs all
+part_whatever (Err e) a b xs all part = part
+
+pub whole_without_fault : {T E : Type 0} (r : Result T E) (before now : ℕ) (a b : Option (List ℕ)) (xs : List ℕ) → OnOk r (Appends a b xs) → HasCause before now r → before ≡ 0 → now ≡ 0 → Appends a b xs
+whole_without_fault (Ok x) before now a b xs all cause e f = all
+whole_without_fault (Err y) before now a b xs all cause e f = absurd (omega (arith, cause.failed))
+
+-- the line of a status other than Done
+pub trouble_is : (s : Status) → (s ≡ Done → ⊥) → fault_line s ≡ trouble_text s
+trouble_is Done not_done = absurd (not_done refl)
+trouble_is (BadWords place) not_done = refl
+trouble_is (BadHeader fault) not_done = refl
+trouble_is (TooLarge padded) not_done = refl
+trouble_is (Truncated got wanted) not_done = refl
+trouble_is ReadFault not_done = refl
+trouble_is (WriteFault port) not_done = refl
+trouble_is NoMemory not_done = refl

@@ -1,0 +1,144 @@
+ghost use Rattle.std.specs.Prelude.{◌≡◌, ◌≢◌, ◌+◌, ◌<◌, ◌≤◌, ◌^◌, ◌++◌, [], List, ℕ, length, decimal, true};
+ghost use Rattle.arrayvec.specs.ArrayVec.{array_vec_len};
+ghost use Rattle.formats.specs.Faults.{head_fault_text, port_text, status_text, trouble_text, fault_line as fault_line_lem};
+ghost use Rattle.formats.specs.declared.Port.{Port};
+ghost use Rattle.formats.specs.declared.Port.TheVariants.{Trouble};
+ghost use Rattle.formats.specs.declared.Status.TheVariants.{Done, Truncated};
+ghost use Rattle.st_base.specs.Desk.{AppendsPart};
+ghost use Rattle.std.specs.Io.KnownBytes.{Appends};
+
+use crate::put::put_all;
+use arrayvec::ArrayVec;
+use itoa::Buffer;
+use st_base::{Desk, HeadFault, Port, Status};
+
+/// The longest line has 69 bytes.
+const ROOM: usize = 96;
+
+/// A line that is told, in a buffer without memory.
+type Line = ArrayVec<u8, ROOM>;
+
+fn add(line: &mut Line, bytes: &[u8])
+    requires { length line.old.items + length bytes.now ≤ ROOM }
+    ensures { line.new.items ≡ line.old.items ++ bytes.now }
+{
+    for byte in bytes {
+        line.push(*byte);
+    }
+}
+
+fn add_number(line: &mut Line, number: u64)
+    requires { length line.old.items + 20 ≤ ROOM }
+    ensures text { line.new.items ≡ line.old.items ++ decimal number }
+    ensures length { length line.new.items ≤ length line.old.items + 20 }
+{
+    let mut buffer = Buffer::new();
+    add(line, buffer.format(number).as_bytes());
+}
+
+fn add_product(line: &mut Line, number: u128)
+    requires { length line.old.items + 40 ≤ ROOM }
+    ensures text { line.new.items ≡ line.old.items ++ decimal number }
+    ensures length { length line.new.items ≤ length line.old.items + 40 }
+{
+    let mut buffer = Buffer::new();
+    add(line, buffer.format(number).as_bytes());
+}
+
+fn port_name(port: Port) -> &'static [u8]
+    ensures name { result.now ≡ port_text port }
+    ensures length { length result.now ≤ 7 }
+{
+    match port {
+        Port::Node => b"node",
+        Port::Ele => b"ele",
+        Port::Report => b"report",
+        Port::Trouble => b"trouble",
+    }
+}
+
+fn add_header_fault(line: &mut Line, fault: HeadFault)
+    requires { length line.old.items ≤ 7 }
+    ensures text { line.new.items ≡ line.old.items ++ head_fault_text fault }
+    ensures length { length line.new.items < ROOM }
+{
+    match fault {
+        HeadFault::NotPlain { place } => {
+            add(line, b"header not plain at byte ");
+            add_number(line, place);
+        }
+        HeadFault::ReadFault => add(line, b"read fault"),
+        HeadFault::NoMemory => add(line, b"no memory"),
+    }
+}
+
+fn add_truncated(line: &mut Line, got: u64, wanted: u64)
+    requires { length line.old.items ≤ 7 }
+    ensures text { line.new.items ≡ line.old.items ++ status_text (Truncated got wanted) }
+    ensures length { length line.new.items < ROOM }
+{
+    add(line, b"truncated: ");
+    add_number(line, got);
+    add(line, b" of ");
+    add_number(line, wanted);
+    add(line, b" bytes");
+}
+
+fn add_status(line: &mut Line, status: Status)
+    requires { length line.old.items ≤ 7 }
+    ensures text { line.new.items ≡ line.old.items ++ status_text status }
+    ensures length { length line.new.items < ROOM }
+{
+    match status {
+        Status::Done => {}
+        Status::BadWords { place } => {
+            add(line, b"bad words at ");
+            add_number(line, place);
+        }
+        Status::BadHeader { fault } => add_header_fault(line, fault),
+        Status::TooLarge { padded } => {
+            add(line, b"too large: ");
+            add_product(line, padded);
+        }
+        Status::Truncated { got, wanted } => add_truncated(line, got, wanted),
+        Status::ReadFault => add(line, b"read fault"),
+        Status::WriteFault { port } => {
+            add(line, b"write fault: ");
+            add(line, port_name(port));
+        }
+        Status::NoMemory => add(line, b"no memory"),
+    }
+}
+
+// The line of a status other than Done.
+fn fault_line(status: Status) -> Line
+    ensures { result.items ≡ fault_line_lem status }
+{
+    let mut line = Line::new();
+    add(&mut line, b"stuff: ");
+    add_status(&mut line, status);
+    add(&mut line, b"\n");
+    line
+}
+
+/// Writes the line of a status to Trouble, as far as it goes: nothing after Done.
+pub fn tell<D: Desk>(desk: &mut D, status: Status)
+    requires is_open { (D.ports desk.old Trouble).is_open ≡ true }
+    requires no_faults { (D.ports desk.old Trouble).faults ≡ 0 }
+    ensures part { AppendsPart (D.ports desk.old Trouble).text (D.ports desk.new Trouble).text (trouble_text status) }
+    ensures whole { (D.ports desk.new Trouble).faults ≡ 0 →
+        Appends (D.ports desk.old Trouble).text (D.ports desk.new Trouble).text (trouble_text status) }
+    ensures tried { D.tried desk.new ≡ D.tried desk.old }
+    ensures input { D.input desk.new ≡ D.input desk.old }
+    ensures others { (p : Port) → p ≢ Trouble → D.ports desk.new p ≡ D.ports desk.old p }
+    ensures quiet { status ≡ Status.Done → D.ports desk.new Trouble ≡ D.ports desk.old Trouble }
+    ensures held { (n : List ℕ) → D.held desk.new n ≡ D.held desk.old n }
+{
+    match status {
+        Status::Done => {}
+        _ => {
+            let line = fault_line(status);
+            let _ = put_all(desk, Port::Trouble, line.as_slice());
+        }
+    }
+}
