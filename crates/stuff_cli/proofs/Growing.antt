@@ -1,10 +1,8 @@
 -- Texts that grow in pieces.
-use Rattle.std.proofs.Common.{◌≡◌, ℕ, ◌+◌, ◌-◌, zero, suc, zero-add, List, [], ◌∷◌, ◌++◌, length, take, drop, Option, Some, None, refl, ap, sym, ◌∙◌, arith, append_assoc, length-drop, length-append, subst}
+use Rattle.std.proofs.Common.{◌≡◌, ℕ, ◌+◌, ◌-◌, zero, suc, zero-add, List, [], ◌∷◌, ◌++◌, length, take, drop, Option, Some, None, refl, ap, sym, ◌∙◌, arith, append_assoc, length-drop, subst}
 use Rattle.std.proofs.lemmas.Grind.{common_steps}
 use Rattle.std.proofs.lemmas.List.{take_all}
 use Rattle.std.specs.Io.KnownBytes.{Appends}
-use Rattle.std.proofs.lemmas.List.{take-append-le}
-use Rattle.std.proofs.Math.Seq.{take-append-add}
 use Rattle.st_base.specs.Desk.{AppendsPart}
 use Rattle.std.specs.Prelude.{OnOk, OnErr}
 use Rattle.st_base.specs.Causes.{HasCause}
@@ -32,19 +30,6 @@ pub take_more : (i n : ℕ) (xs : List ℕ) → take (i + n) xs ≡ take i xs ++
 take_more i n xs =
     let e : take (length xs - i) (drop i xs) ≡ drop i xs = take_all (length xs - i) (drop i xs) (omega (arith, length-drop i xs)) in
     take_plus i n xs ∙ ap (λ (t : List ℕ). take i xs ++ take n t) (sym e)
-
-pub part_left : (a b : Option (List ℕ)) (xs ys : List ℕ) → AppendsPart a b xs → AppendsPart a b (xs ++ ys)
-part_left a b xs ys p =
-    let e : take p.0 xs ≡ take p.0 (xs ++ ys) = sym (take-append-le p.0 xs ys p.1) in
-    (p.0, omega (arith, p.1, length-append xs ys), subst (λ (t : List ℕ). Appends a b t) e p.2)
-
-pub part_right : (a b c : Option (List ℕ)) (xs ys : List ℕ) → Appends a b xs → AppendsPart b c ys → AppendsPart a c (xs ++ ys)
-part_right a b c xs ys h p =
-    (length xs + p.0, omega (arith, p.1, length-append xs ys), appends_trans a b c xs (take p.0 ys) (take (length xs + p.0) (xs ++ ys)) h p.2 (take-append-add xs ys p.0))
-
-pub part_right_on : {T E : Type 0} (r : Result T E) (a b c : Option (List ℕ)) (xs ys : List ℕ) → Appends a b xs → OnErr r (AppendsPart b c ys) → OnErr r (AppendsPart a c (xs ++ ys))
-part_right_on (Ok x) a b c xs ys h p = tt
-part_right_on (Err e) a b c xs ys h p = part_right a b c xs ys h p
 
 -- a list that grows by one part after another
 pub two_parts : (line mid end a b : List ℕ) → mid ≡ line ++ a → end ≡ mid ++ b → end ≡ line ++ (a ++ b)

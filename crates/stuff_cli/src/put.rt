@@ -35,27 +35,3 @@ pub fn put_all<D: Desk>(desk: &mut D, port: Port, bytes: &[u8]) -> Result<(), Wr
     }
     Ok(())
 }
-
-/// Writes two pieces, one after the other.
-pub fn put_both<D: Desk>(
-    desk: &mut D,
-    port: Port,
-    first: &[u8],
-    second: &[u8],
-) -> Result<(), WriteFault>
-    requires { (D.ports desk.old port).is_open ≡ true }
-    ensures all { OnOk result (Appends (D.ports desk.old port).text (D.ports desk.new port).text (first.now ++ second.now)) }
-    ensures part { OnErr result (AppendsPart (D.ports desk.old port).text (D.ports desk.new port).text (first.now ++ second.now)) }
-    ensures cause { HasCause (D.ports desk.old port).faults (D.ports desk.new port).faults result }
-    ensures is_open { (D.ports desk.new port).is_open ≡ true }
-    ensures name { (D.ports desk.new port).name ≡ (D.ports desk.old port).name }
-    ensures tried { D.tried desk.new ≡ D.tried desk.old }
-    ensures input { D.input desk.new ≡ D.input desk.old }
-    ensures others { (p : Port) → p ≢ port → D.ports desk.new p ≡ D.ports desk.old p }
-    ensures held { (n : List ℕ) → D.held desk.new n ≡ D.held desk.old n }
-{
-    match put_all(desk, port, first) {
-        Ok(()) => put_all(desk, port, second),
-        Err(fault) => Err(fault),
-    }
-}

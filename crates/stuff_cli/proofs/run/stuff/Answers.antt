@@ -1,5 +1,4 @@
-use Rattle.std.proofs.Common.{◌≡◌, ◌≢◌, ap, sym, ◌∙◌}
-use Rattle.formats.specs.declared.Port.{Port}
+use Rattle.std.proofs.Common.{◌≢◌, ◌∙◌}
 use Rattle.formats.specs.declared.Port.TheVariants.{Report, Trouble}
 use Rattle.stuff_cli.specs.Inputs.{IsInput}
 use Rattle.stuff_cli.proofs.Endings.{bad_words_end, words_bad, ends_later, outcome_is, outcome_comes, outcome_read, whole_at_write_fault, part_at_write_fault, breaks_at_read_fault}

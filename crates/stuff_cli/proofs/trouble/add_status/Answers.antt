@@ -1,5 +1,4 @@
-use Rattle.std.proofs.Common.{◌≡◌, List, ℕ, ◌++◌, codes, ap, ◌∙◌}
-use Rattle.formats.specs.Faults.{port_text}
+use Rattle.std.proofs.Common.{List, ℕ, ◌++◌, codes, ap, ◌∙◌}
 use Rattle.stuff_cli.proofs.Growing.{two_parts}
 use Rattle.stuff_cli.proofs.trouble.add_status.Goals as goal
 

@@ -1,4 +1,4 @@
-use Rattle.std.proofs.Common.{◌≡◌, ◌++◌, codes, decimal}
+use Rattle.std.proofs.Common.{◌++◌, codes, decimal}
 use Rattle.stuff_cli.proofs.Growing.{two_parts}
 use Rattle.stuff_cli.proofs.trouble.add_truncated.Goals as goal
 
