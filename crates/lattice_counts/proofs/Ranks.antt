@@ -5,7 +5,7 @@ use Rattle.std.specs.List.{range_with_len, AllByRecursion}
 use Rattle.std.proofs.lemmas.Bool.Decides.{nat_tests}
 use Rattle.std.proofs.lemmas.List.{get_or-map, length-map}
 use Rattle.std.proofs.lemmas.List.FromFn.{get_or-map-range_with_len, length-map-range_with_len}
-use Rattle.std.proofs.Math.Nat.{mul-le-mul_right}
+use Rattle.std.proofs.Math.Nat.{mul-le-mul_left, mul-le-mul_right, mod-lt, div-lt_iff_lt-mul, lt_of_mul-lt-mul_right}
 use Rattle.std.proofs.lemmas.List.Sums.{sum_by-append}
 use Rattle.definitions.specs.declared.Vertex.{Vertex}
 use Rattle.definitions.specs.declared.Dims.{Dims}
@@ -13,12 +13,22 @@ use Rattle.definitions.specs.Lattice.{vertex, InDomain, IsDims, axis, layer, lay
 use Rattle.definitions.specs.Layout.{layer_len, layer_start}
 use Rattle.lattice_laws.proofs.AscendingLists.{flat_map_map, all_map, all_flat_map}
 use Rattle.lattice_laws.proofs.Vertices.{id-vertex_at, vertex_at-id}
-use Rattle.lattice_counts.specs.Counts.{row_len, even_len, odd_len, below_layer, before_in_layer, AreSmall, LayersCountVertices}
+use Rattle.lattice_counts.specs.Counts.{row_len, even_len, odd_len, below_layer, before_in_layer, vertex_in_layer, AreSmall, LayersCount, LayersCountVertices, PlaceInLayer, StandsInLayer}
 use Rattle.lattice_counts.proofs.Ranges.{get_or-flat_map_range, length-flat_map_range, count_none, count_all_true, count_all_false}
 use Rattle.lattice_counts.proofs.Sizes.{nx_small, ny_small, nz_small, even_small, in_all}
 
 even_or_odd : (n : ℕ) → (n % 2 ≡ 0) ⊎ (n % 2 ≡ 1)
 even_or_odd n = grind arith
+
+-- all layers
+whole_count : (e o z : ℕ) → (2 * z + 3) / 2 * (e + o) + (2 * z + 3) % 2 * e ≡ (z + 1) * (e + o) + e
+whole_count e o z =
+    let q : (2 * z + 3) / 2 ≡ z + 1 = omega arith in
+    let r : (2 * z + 3) % 2 ≡ 1 = omega arith in
+    (λ i. q i * (e + o) + r i * e) ∙ ap (λ m. (z + 1) * (e + o) + m) (one e)
+  where
+    one : (e : ℕ) → 1 * e ≡ e
+    one e = omega arith
 
 module _ (d : Dims) where
   abbrev row : ℕ → ℕ → List Vertex
@@ -232,17 +242,8 @@ module _ (d : Dims) where
     ny = ny_small d is;
     nz = nz_small d is;
     even = even_small d is;
-    all = subst (λ n. n ≤ 2 ^ 27) (sym (all_length ∙ whole (even_len d) (odd_len d) d.nz)) (in_all d is);
+    all = subst (λ n. n ≤ 2 ^ 27) (sym (all_length ∙ whole_count (even_len d) (odd_len d) d.nz)) (in_all d is);
   }
-    where
-      whole : (e o z : ℕ) → (2 * z + 3) / 2 * (e + o) + (2 * z + 3) % 2 * e ≡ (z + 1) * (e + o) + e
-      whole e o z =
-          let q : (2 * z + 3) / 2 ≡ z + 1 = omega arith in
-          let r : (2 * z + 3) % 2 ≡ 1 = omega arith in
-          (λ i. q i * (e + o) + r i * e) ∙ ap (λ m. (z + 1) * (e + o) + m) (one e)
-        where
-          one : (e : ℕ) → 1 * e ≡ e
-          one e = omega arith
 
 -- the numbers of vertices below a layer are small
 module _ (d : Dims) (is : IsDims d) where
@@ -266,6 +267,123 @@ module _ (d : Dims) (is : IsDims d) where
     where
       part : (a b n : ℕ) → a + b ≤ n → a ≤ n
       part a b n h = omega arith
+
+  pub place_small : (v : Vertex) → InDomain d v → below_layer d v.h + before_in_layer d v < 2 ^ 27
+  place_small v k = let p = place_within d v k in let s = all_small in omega arith
+
+  pub id_small : (v : Vertex) → InDomain d v → id d v < 2 ^ 27
+  id_small v k = let r = rank d v k in let p = place_small v k in omega arith
+
+pub id_within : (d : Dims) (v : Vertex) → InDomain d v → id d v < length (vertices d)
+id_within d v k = (vertex_at-id d v k).0
+
+-- ---- from ids to vertices
+
+-- the layer with an id, and the id's place in it, lead to the vertex
+pub vertex_by_place : (d : Dims) (v : Vertex) (n : ℕ) → InDomain d v → below_layer d v.h + before_in_layer d v ≡ n → (vertex_at d n ≡ v) × (id d v ≡ n)
+vertex_by_place d v n k e = (ap (vertex_at d) (sym (rank d v k ∙ e)) ∙ (vertex_at-id d v k).1, rank d v k ∙ e)
+
+-- a place in a row and the row in the layer
+pub place_of_row : (d : Dims) (h p : ℕ) → IsDims d → h < layers d → p < row_len d.ny h * row_len d.nx h → PlaceInLayer d h p
+place_of_row d h p is lt below =
+    let w0 : 0 < row_len d.nx h = let x = is.nx_positive in omega arith in
+    let r : p / row_len d.nx h < row_len d.ny h = rows (row_len d.nx h) (row_len d.ny h) p w0 below in
+    let c : p % row_len d.nx h < row_len d.nx h = mod-lt p w0 in
+    record {
+      domain = record {
+        h_below = lt;
+        y_below = at_most (p / row_len d.nx h) h d.ny r;
+        x_below = at_most (p % row_len d.nx h) h d.nx c;
+        y_alike = alike (p / row_len d.nx h) h;
+        x_alike = alike (p % row_len d.nx h) h;
+      };
+      place = (λ i. half (p / row_len d.nx h) h i * row_len d.nx h + half (p % row_len d.nx h) h i) ∙ whole p (row_len d.nx h) w0;
+    }
+  where
+    rows : (w m p : ℕ) → 0 < w → p < m * w → p / w < m
+    rows w m p w0 below = (div-lt_iff_lt-mul w0).1 below
+
+    at_most : (q h n : ℕ) → q < n + 2 - h % 2 → q * 2 + h % 2 < 2 * n + 3
+    at_most q h n lt = omega arith
+
+    alike : (q h : ℕ) → (q * 2 + h % 2) % 2 ≡ h % 2
+    alike q h = omega arith
+
+    half : (q h : ℕ) → (q * 2 + h % 2) / 2 ≡ q
+    half q h = omega arith
+
+    whole : (p w : ℕ) → 0 < w → p / w * w + p % w ≡ p
+    whole p w w0 = omega arith
+
+-- an id's layer, from its part of the two layers in which it stands
+module _ (d : Dims) (is : IsDims d) (n : ℕ) (below : n < length (vertices d)) where
+  abbrev pub pair : ℕ
+  pair = even_len d + odd_len d
+
+  even_some : 0 < even_len d
+  even_some =
+      let x = is.nx_positive in let y = is.ny_positive in
+      let m : (d.nx + 2) * 1 ≤ (d.nx + 2) * (d.ny + 2) = mul-le-mul_left (d.nx + 2) (let h : 1 ≤ d.ny + 2 = omega arith in h) in
+      omega arith
+
+  n_below : n < (d.nz + 1) * pair + even_len d
+  n_below = subst (λ m. n < m) (all_length d ∙ whole_count (even_len d) (odd_len d) d.nz) below
+
+  pair_some : 0 < pair
+  pair_some = let e = even_some in omega arith
+
+  halves : n / pair * pair + n % pair ≡ n
+  halves = whole n pair pair_some
+    where
+      whole : (p w : ℕ) → 0 < w → p / w * w + p % w ≡ p
+      whole p w w0 = omega arith
+
+  pub in_even : n % pair < even_len d → StandsInLayer d n (2 * (n / pair)) (n % pair)
+  in_even lt = record {
+    layer = (let q : n / pair < d.nz + 1 + 1 = lt_of_mul-lt-mul_right pair (least n (n / pair) (n % pair) (d.nz + 1) (even_len d) (odd_len d) n_below halves) in double (n / pair) d.nz q);
+    place = subst (λ m. n % pair < m) (sym (even_layer d (2 * (n / pair)) (parity (n / pair)))) lt;
+    sum = (λ i. half (n / pair) i * pair + parity (n / pair) i * even_len d + n % pair) ∙ plain (n / pair * pair) (even_len d) (n % pair) ∙ halves;
+  }
+    where
+      least : (n q r z e o : ℕ) → n < z * (e + o) + e → q * (e + o) + r ≡ n → q * (e + o) < (z + 1) * (e + o)
+      least n q r z e o lt e1 = omega arith
+
+      double : (q z : ℕ) → q < z + 1 + 1 → 2 * q < 2 * z + 3
+      double q z lt = omega arith
+
+      parity : (q : ℕ) → (2 * q) % 2 ≡ 0
+      parity q = omega arith
+
+      half : (q : ℕ) → (2 * q) / 2 ≡ q
+      half q = omega arith
+
+      plain : (p e r : ℕ) → p + 0 * e + r ≡ p + r
+      plain p e r = omega arith
+
+  pub in_odd : even_len d ≤ n % pair → StandsInLayer d n (2 * (n / pair) + 1) (n % pair - even_len d)
+  in_odd le = record {
+    layer = (let q : n / pair < d.nz + 1 = lt_of_mul-lt-mul_right pair (least n (n / pair) (n % pair) (d.nz + 1) (even_len d) (odd_len d) n_below halves le) in double (n / pair) d.nz q);
+    place = subst (λ m. n % pair - even_len d < m) (sym (odd_layer d (2 * (n / pair) + 1) (parity (n / pair)))) (let r : n % pair < pair = mod-lt n pair_some in rest (n % pair) (even_len d) (odd_len d) r le);
+    sum = (λ i. half (n / pair) i * pair + parity (n / pair) i * even_len d + (n % pair - even_len d)) ∙ plain (n / pair * pair) (even_len d) (n % pair) le ∙ halves;
+  }
+    where
+      least : (n q r z e o : ℕ) → n < z * (e + o) + e → q * (e + o) + r ≡ n → e ≤ r → q * (e + o) < z * (e + o)
+      least n q r z e o lt e1 le = omega arith
+
+      double : (q z : ℕ) → q < z + 1 → 2 * q + 1 < 2 * z + 3
+      double q z lt = omega arith
+
+      parity : (q : ℕ) → (2 * q + 1) % 2 ≡ 1
+      parity q = omega arith
+
+      half : (q : ℕ) → (2 * q + 1) / 2 ≡ q
+      half q = omega arith
+
+      rest : (r e o : ℕ) → r < e + o → e ≤ r → r - e < o
+      rest r e o lt le = omega arith
+
+      plain : (p e r : ℕ) → e ≤ r → p + 1 * e + (r - e) ≡ p + r
+      plain p e r le = omega arith
 
 pub layers_count_vertices : LayersCountVertices
 layers_count_vertices d = record {

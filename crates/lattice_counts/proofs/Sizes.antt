@@ -1,5 +1,5 @@
 -- Within the limit of the sizes all numbers of vertices are small.
-use Rattle.std.proofs.Common.{ℕ, ◌+◌, ◌*◌, ◌^◌, ◌<◌, ◌≤◌, arith}
+use Rattle.std.proofs.Common.{ℕ, ◌+◌, ◌-◌, ◌*◌, ◌^◌, ◌<◌, ◌≤◌, arith}
 use Rattle.std.proofs.Math.Nat.{mul-le-mul, mul-le-mul_right, mul-le-mul_left}
 use Rattle.definitions.specs.declared.Dims.{Dims}
 use Rattle.definitions.specs.Lattice.{IsDims}
@@ -54,3 +54,14 @@ odd_small d is =
     let m : (d.nx + 1) * (d.ny + 1) ≤ (d.nx + 2) * (d.ny + 2) = mul-le-mul a b in
     let e = even_small d is in
     omega arith
+
+pub layer_small : (d : Dims) (o : ℕ) → IsDims d → (d.ny + 2 - o) * (d.nx + 2 - o) < 2 ^ 25
+layer_small d o is =
+    let a : d.ny + 2 - o ≤ d.ny + 2 = omega arith in
+    let b : d.nx + 2 - o ≤ d.nx + 2 = omega arith in
+    let m : (d.ny + 2 - o) * (d.nx + 2 - o) ≤ (d.ny + 2) * (d.nx + 2) = mul-le-mul a b in
+    let e = even_small d is in
+    chain ((d.ny + 2 - o) * (d.nx + 2 - o)) (d.nx + 2) (d.ny + 2) m e
+  where
+    chain : (p x y : ℕ) → p ≤ y * x → x * y < 2 ^ 25 → p < 2 ^ 25
+    chain p x y m e = omega arith

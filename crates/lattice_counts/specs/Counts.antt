@@ -2,7 +2,7 @@
 use Rattle.std.specs.Prelude.{◌≡◌, ℕ, ◌+◌, ◌-◌, ◌*◌, ◌/◌, ◌%◌, ◌^◌, ◌<◌, ◌≤◌, length}
 use Rattle.definitions.specs.declared.Dims.{Dims}
 use Rattle.definitions.specs.declared.Vertex.{Vertex}
-use Rattle.definitions.specs.Lattice.{IsDims, InDomain, id, layers, vertices}
+use Rattle.definitions.specs.Lattice.{IsDims, InDomain, id, layers, vertex, vertices}
 use Rattle.definitions.specs.Layout.{layer_len, layer_start}
 
 -- how many numbers an axis of n samples has in layer h
@@ -23,6 +23,21 @@ below_layer d h = h / 2 * (even_len d + odd_len d) + h % 2 * even_len d
 -- how many vertices stand before v in its layer, and before it in all
 abbrev pub before_in_layer : Dims → Vertex → ℕ
 before_in_layer d v = v.y / 2 * row_len d.nx v.h + v.x / 2
+
+-- the vertex in layer h before which p vertices of the layer stand
+abbrev pub vertex_in_layer : Dims → ℕ → ℕ → Vertex
+vertex_in_layer d h p = vertex h (p / row_len d.nx h * 2 + h % 2) (p % row_len d.nx h * 2 + h % 2)
+
+-- it is in the domain, and so many vertices stand before it
+pub record PlaceInLayer (d : Dims) (h p : ℕ) : Type 0 where
+  pub domain : InDomain d (vertex_in_layer d h p)
+  pub place : before_in_layer d (vertex_in_layer d h p) ≡ p
+
+-- the vertex of id n stands in layer h, where p vertices stand before it
+pub record StandsInLayer (d : Dims) (n h p : ℕ) : Type 0 where
+  pub layer : h < layers d
+  pub place : p < row_len d.ny h * row_len d.nx h
+  pub sum : below_layer d h + p ≡ n
 
 -- the sizes are small numbers, and so are the numbers of vertices
 pub record AreSmall (d : Dims) : Type 0 where
