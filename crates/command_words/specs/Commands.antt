@@ -1,0 +1,25 @@
+-- What the code's commands and level words mean by the grammar.
+use Rattle.std.specs.Prelude.{◌≡◌, ℕ, ℤ, Bool, ◌&&◌, not, nat_lt, ◌==◌, List, [], ◌++◌, length, codes, slice_index_or}
+use Rattle.std.specs.Str.{bytes_eq}
+use Rattle.formats.specs.Words.{IsLevel, Command as Meaning, CountSigns}
+use Rattle.command_words.specs.declared.command.Command.{Command}
+use Rattle.command_words.specs.declared.command.Command.TheVariants.{Count}
+
+abbrev pub meaning_of : Command → Meaning
+meaning_of (Count input level) = CountSigns input level
+
+-- the number of the word that names the input
+abbrev pub input_of : Command → ℕ
+input_of (Count input level) = input
+
+-- the word names a level
+abbrev pub IsLevelWord : List ℕ → ℤ → Type 0
+IsLevelWord word twice = (text : List ℕ) × (word ≡ codes "level=" ++ text) × IsLevel text twice
+
+-- word n is this text
+abbrev pub is_word : List (List ℕ) → ℕ → List ℕ → Bool
+is_word words n text = nat_lt n (length words) && bytes_eq (slice_index_or words n []) text
+
+-- word n can be a file's name: it is there, and is not empty
+abbrev pub is_name : List (List ℕ) → ℕ → Bool
+is_name words n = nat_lt n (length words) && not (length (slice_index_or words n []) == 0)

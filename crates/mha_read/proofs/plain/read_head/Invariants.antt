@@ -1,0 +1,17 @@
+use Rattle.std.proofs.Common.{◌≡◌, ℕ, ◌<◌, ◌≤◌, List, Some, true}
+use Rattle.formats.specs.declared.Port.{Port}
+use Rattle.mha_read.specs.Heads.{AreRawSizes}
+use Rattle.mha_read.proofs.PlainHeads.{HeadRead}
+use Rattle.mha_read.proofs.plain.read_head.Given as goal
+
+abbrev pub invariant-loop-form : goal.invariant-loop-form
+invariant-loop-form g l = record {
+  is_open : (g.D.Desk.input l.desk).is_open ≡ true;
+  faults : (g.D.Desk.input l.desk).faults ≡ (g.D.Desk.input l.initial.desk).faults;
+  ports : (p : Port) → g.D.Desk.ports l.desk p ≡ g.D.Desk.ports l.initial.desk p;
+  tried : g.D.Desk.tried l.desk ≡ g.D.Desk.tried l.initial.desk;
+  held : (n : List ℕ) → g.D.Desk.held l.desk n ≡ g.D.Desk.held l.initial.desk n;
+  within : l.place ≤ 65536;
+  sizes : 10 < l.form-index → AreRawSizes l.raw;
+  read : (text : List ℕ) → (g.D.Desk.input l.initial.desk).left ≡ Some text → HeadRead text l.form-index l.place l.raw (g.D.Desk.input l.desk).left;
+}

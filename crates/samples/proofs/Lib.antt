@@ -1,0 +1,4 @@
+pub mod Sizes
+pub mod ValuesAt
+pub mod Sums
+pub mod SignCounts

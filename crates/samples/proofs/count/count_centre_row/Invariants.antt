@@ -1,0 +1,12 @@
+use Rattle.std.proofs.Common.{◌≡◌, ◌<◌, ◌^◌, unsigned_abs}
+use Rattle.definitions.specs.Values.{cube_sum}
+use Rattle.samples.specs.Rows.{side_sum}
+use Rattle.samples.specs.SignCounts.{signs_below, one}
+use Rattle.samples.proofs.count.count_centre_row.Given as goal
+
+abbrev pub invariant-loop-i : goal.invariant-loop-i
+invariant-loop-i l = record {
+  side : l.near ≡ side_sum l.field l.i l.j l.k;
+  small : unsigned_abs l.near < 2 ^ 36;
+  counted : l.signs ≡ signs_below l.i (λ i. one (cube_sum l.field i l.j l.k));
+}

@@ -1,0 +1,14 @@
+pub mod AllOpen
+pub mod Cuts
+pub mod Lattice
+pub mod States
+pub mod Stencils
+pub mod OneSample
+pub mod TwoSamples
+pub mod TwoSamplesLongAlone
+pub mod EightSamples
+pub mod UpperHalfBelow
+pub mod NoTetrahedra
+pub mod Unsound
+pub mod Layouts
+pub mod RandomFields
