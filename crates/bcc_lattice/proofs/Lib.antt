@@ -1,0 +1,2 @@
+pub mod ListedTets
+pub mod Steps

@@ -1,0 +1,9 @@
+pub mod Directions
+pub mod Bounds
+pub mod Layouts
+pub mod TetLists
+pub use Rattle.definitions.specs.Lattice
+pub use Rattle.definitions.specs.Layout
+pub use Rattle.definitions.specs.Places
+pub use Rattle.definitions.specs.States
+pub use Rattle.definitions.specs.Tetrahedra
