@@ -1,0 +1,3 @@
+pub mod AgreedOrder
+pub mod Pyramid
+pub mod Prism

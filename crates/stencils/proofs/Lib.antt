@@ -1,0 +1,8 @@
+pub mod Corners
+pub mod Table
+pub mod Translated
+pub mod KindModels
+pub mod FramesOfKinds
+pub mod PiecesOfCases
+pub mod PlacesOfCorners
+pub mod NumberedByTest

@@ -1,0 +1,16 @@
+use Rattle.std.proofs.Common.{◌≡◌, length, ◌∙◌, rules}
+use Rattle.stencils.proofs.PiecesOfCases.{nothing_of_row, pieces_of_row}
+use Rattle.stencils.proofs.pieces.Goals as goal
+
+pub returns-then-row-eq0 : goal.returns-then-row-eq0
+returns-then-row-eq0 c =
+    let t = c.args.tet.now in
+    let len : length c.args.signs ≡ 4 = search rules in
+    nothing_of_row t.at t.ids c.args.signs c.requires.tet len c.row_of_signs-row.result.now c.row_of_signs-row.ensures c.if-row-eq0.true
+
+pub returns : goal.returns
+returns c =
+    let t = c.args.tet.now in
+    let len : length c.args.signs ≡ 4 = search rules in
+    c.keys_of_case.ensures
+    ∙ pieces_of_row t.at t.ids c.args.signs c.requires.tet len c.row_of_signs-row.result.now c.row_of_signs-row.ensures c.frame_of-frame.result.now c.case_of.result.now c.keys_of-keys.result c.frame_of-frame.ensures c.case_of.ensures c.keys_of-keys.ensures

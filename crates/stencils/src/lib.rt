@@ -1,0 +1,185 @@
+//! The pieces of a lattice tetrahedron: what is kept of it, cut into at most three tetrahedra.
+//!
+//! The keys of the ten nodes that a lattice tetrahedron can have always ascend in the same order. So which
+//! nodes its pieces have depends on the signs of its vertices alone, and their orientation on the sign of its volume
+//! besides: the pieces are a row of a table, with the keys filled in.
+#![tactic(auto)]
+
+ghost use Rattle.std.specs.Prelude.{◌≡◌, ◌+◌, ◌*◌, ◌^◌, ◌<◌, All, IsTrue, nat_lt, map, position, slice_index, take, if◌then◌else◌};
+ghost use Rattle.std.specs.List.{list_all};
+ghost use Rattle.definitions.specs.Pieces.{pieces as pieces_of, corner_key};
+ghost use Rattle.lattice_laws.specs.NumberedTetrahedra.{IsNumberedTet, is_corner, rank};
+ghost use Rattle.definitions.specs.Stencils.{corners, same_corner};
+ghost use Rattle.stencils.specs.Cases.{has_places, listed};
+ghost use Rattle.stencils.specs.Frames.{ten_keys, are_directions};
+
+mod cases;
+mod filled;
+mod frames;
+mod tet;
+
+use cases::{Case, Row, row_of_signs};
+pub use definitions::{Corner, Sign, Vertex};
+pub use filled::Pieces;
+use frames::frame_of;
+pub use tet::Tet;
+
+/// The pieces of a lattice tetrahedron with these signs: the keys of their nodes, oriented and in order.
+pub fn pieces(tet: &Tet, signs: [Sign; 4]) -> Pieces
+    requires fit { All (λ id. 8 * id + 7 < 2 ^ 32) tet.now.ids }
+    requires tet { IsNumberedTet tet.now.at tet.now.ids }
+    ensures { take result.len result.of ≡ pieces_of tet.now.at tet.now.ids signs }
+{
+    let row = row_of_signs(signs);
+    if row.straight.len == 0 {
+        return Pieces {
+            len: 0,
+            of: [[0; 4]; 3],
+        };
+    }
+    let frame = frame_of(tet);
+    let keys = keys_of(tet.ids, frame.directions);
+    keys_of_case(&keys, case_of(row, frame.is_turned))
+}
+
+/// The key of a node of a lattice tetrahedron: eight times the id of its vertex, or of the lower end of its edge, and
+/// for a cut the direction of the edge. The slots are at most 3, and of a cut the first slot is below the second.
+pub fn node_key(tet: &Tet, corner: Corner) -> u32
+    requires fit { All (λ id. 8 * id + 7 < 2 ^ 32) tet.now.ids }
+    requires tet { IsNumberedTet tet.now.at tet.now.ids }
+    requires corner { IsTrue (is_corner corner) }
+    ensures { result ≡ corner_key tet.now.at tet.now.ids corner }
+{
+    let frame = frame_of(tet);
+    let keys = keys_of(tet.ids, frame.directions);
+    keys[place_of(corner)]
+}
+
+// The ten nodes that a tetrahedron can have, in the order of their keys.
+const CORNERS: [Corner; 10] = [
+    Corner::Whole(0),
+    Corner::Cut(0, 1),
+    Corner::Cut(0, 2),
+    Corner::Cut(0, 3),
+    Corner::Whole(1),
+    Corner::Cut(1, 2),
+    Corner::Cut(1, 3),
+    Corner::Whole(2),
+    Corner::Cut(2, 3),
+    Corner::Whole(3),
+];
+
+// The place of a node among the ten.
+fn place_of(corner: Corner) -> usize
+    requires { IsTrue (is_corner corner) }
+    ensures place { result ≡ rank corner }
+    ensures below { result < 10 }
+{
+    find_corner(corner).unwrap_or(0)
+}
+
+fn find_corner(corner: Corner) -> Option<usize>
+    ensures { result ≡ position (same_corner corner) corners }
+{
+    CORNERS.iter().position(|c| is_same(corner, *c))
+}
+
+fn is_same(a: Corner, b: Corner) -> bool
+    ensures { result ≡ same_corner a b }
+{
+    match (a, b) {
+        (Corner::Whole(m), Corner::Whole(n)) => m == n,
+        (Corner::Cut(k, m), Corner::Cut(l, n)) => k == l && m == n,
+        _ => false,
+    }
+}
+
+fn case_of(row: &'static Row, is_turned: bool) -> &'static Case
+    ensures { result.now ≡ (if is_turned then row.now.turned else row.now.straight) }
+{
+    if is_turned {
+        &row.turned
+    } else {
+        &row.straight
+    }
+}
+
+// The keys of all ten nodes that a tetrahedron can have, by the directions of its edges 01, 02, 03, 12, 13 and 23.
+fn keys_of(ids: [u32; 4], directions: [u32; 6]) -> [u32; 10]
+    requires fit { All (λ id. 8 * id + 7 < 2 ^ 32) ids }
+    requires small { IsTrue (are_directions directions) }
+    ensures { result ≡ ten_keys ids directions }
+{
+    let [a, b, c, d] = [8 * ids[0], 8 * ids[1], 8 * ids[2], 8 * ids[3]];
+    [
+        a,
+        a + directions[0],
+        a + directions[1],
+        a + directions[2],
+        b,
+        b + directions[3],
+        b + directions[4],
+        c,
+        c + directions[5],
+        d,
+    ]
+}
+
+// The pieces of a case, with these keys.
+fn keys_of_case(keys: &[u32; 10], case: &Case) -> Pieces
+    requires { IsTrue (has_places case.now) }
+    ensures { take result.len result.of ≡ map (map (λ n. slice_index keys.now n)) (listed case.now) }
+{
+    let [p, q, r] = case.of;
+    Pieces {
+        len: case.len,
+        of: [keys_at(keys, p), keys_at(keys, q), keys_at(keys, r)],
+    }
+}
+
+fn keys_at(keys: &[u32; 10], places: [u8; 4]) -> [u32; 4]
+    requires { IsTrue (list_all (λ n. nat_lt n 10) places) }
+    ensures { result ≡ map (λ n. slice_index keys.now n) places }
+{
+    let [a, b, c, d] = places;
+    [
+        keys[usize::from(a)],
+        keys[usize::from(b)],
+        keys[usize::from(c)],
+        keys[usize::from(d)],
+    ]
+}
+
+#[cfg(test)]
+mod tests {
+    use super::*;
+    use crate::Sign::{Minus, Plus};
+
+    // A vertex with its neighbours in directions 3, 4 and 7.
+    fn standing() -> Tet
+        ensures fit { All (λ id. 8 * id + 7 < 2 ^ 32) result.ids }
+        ensures numbered { IsNumberedTet result.at result.ids }
+    {
+        Tet {
+            at: [
+                Vertex { h: 2, y: 2, x: 2 },
+                Vertex { h: 3, y: 1, x: 1 },
+                Vertex { h: 3, y: 1, x: 3 },
+                Vertex { h: 4, y: 2, x: 2 },
+            ],
+            ids: [10, 20, 21, 40],
+        }
+    }
+
+    #[test]
+    fn a_wedge_has_three_pieces(rt: HostRuntime) {
+        let tet = standing();
+        let wedge = pieces(&tet, [Plus, Plus, Minus, Minus]);
+        assert_eq!(rt; wedge.len, 3);
+        assert_eq!(rt; wedge.of[0], [80, 84, 87, 166]);
+        assert_eq!(rt; wedge.of[1], [80, 84, 166, 161]);
+        assert_eq!(rt; wedge.of[2], [80, 160, 161, 166]);
+        assert_eq!(rt; node_key(&tet, Corner::Cut(1, 3)), 166);
+        assert_eq!(rt; pieces(&tet, [Minus; 4]).len, 0);
+    }
+}
