@@ -1,10 +1,10 @@
 -- The place of a vertex in the list of all vertices, which is its id, by a closed formula.
-use Rattle.std.proofs.Common.{◌≡◌, ℕ, ◌+◌, ◌-◌, ◌*◌, ◌/◌, ◌%◌, ◌^◌, ◌<◌, ◌≤◌, ◌⊎◌, inl, inr, arith, sym, ◌∙◌, ap, zero-add, add-zero, zero, suc, Bool, true, false, List, length, map, get_or, nat_lt, subst, cond}
+use Rattle.std.proofs.Common.{refl, ◌≡◌, ℕ, ◌+◌, ◌-◌, ◌*◌, ◌/◌, ◌%◌, ◌^◌, ◌<◌, ◌≤◌, ◌⊎◌, inl, inr, arith, sym, ◌∙◌, ap, zero-add, add-zero, zero, suc, Bool, true, false, List, length, map, get_or, nat_lt, subst, cond}
 use Rattle.std.specs.Prelude.{flat_map, count_by}
 use Rattle.std.specs.List.{range_with_len, AllByRecursion}
 use Rattle.std.proofs.lemmas.Bool.Decides.{nat_tests}
 use Rattle.std.proofs.lemmas.List.{get_or-map, length-map}
-use Rattle.std.proofs.lemmas.List.FromFn.{get_or-map-range_with_len, length-map-range_with_len}
+use Rattle.std.proofs.lemmas.List.FromFn.{fill_by_all, get_or-map-range_with_len, length-map-range_with_len}
 use Rattle.std.proofs.Math.Nat.{mul-le-mul_left, mul-le-mul_right, mod-lt, div-lt_iff_lt-mul, lt_of_mul-lt-mul_right}
 use Rattle.std.proofs.lemmas.List.Sums.{sum_by-append}
 use Rattle.definitions.specs.declared.Vertex.{Vertex}
@@ -13,6 +13,7 @@ use Rattle.definitions.specs.Lattice.{vertex, InDomain, IsDims, axis, layer, lay
 use Rattle.definitions.specs.Layout.{layer_len, layer_start}
 use Rattle.lattice_laws.proofs.AscendingLists.{flat_map_map, all_map, all_flat_map}
 use Rattle.lattice_laws.proofs.Vertices.{id-vertex_at, vertex_at-id}
+use Rattle.std.proofs.lemmas.Nat.{div-mul-add}
 use Rattle.lattice_counts.specs.Counts.{row_len, even_len, odd_len, below_layer, before_in_layer, vertex_in_layer, AreSmall, LayersCount, LayersCountVertices, PlaceInLayer, StandsInLayer}
 use Rattle.lattice_counts.proofs.Ranges.{get_or-flat_map_range, length-flat_map_range, count_none, count_all_true, count_all_false}
 use Rattle.lattice_counts.proofs.Sizes.{nx_small, ny_small, nz_small, even_small, in_all}
@@ -84,7 +85,7 @@ module _ (d : Dims) where
           swap : (m n : ℕ) → m * n ≡ n * m
           swap m n = omega arith
 
-  below_grows : (j : ℕ) → below_layer d (j + 1) ≡ below_layer d j + length (layer d j)
+  pub below_grows : (j : ℕ) → below_layer d (j + 1) ≡ below_layer d j + length (layer d j)
   below_grows j =
       elim (even_or_odd j) [
         | inl e ↦
@@ -132,7 +133,7 @@ module _ (d : Dims) where
       halves : (x h : ℕ) → x % 2 ≡ h % 2 → 2 * (x / 2) + h % 2 ≡ x
       halves x h e = omega arith
 
-  in_layer : (v : Vertex) → InDomain d v → get_or (layer d v.h) (before_in_layer d v) (vertex 0 0 0) ≡ v
+  pub in_layer : (v : Vertex) → InDomain d v → get_or (layer d v.h) (before_in_layer d v) (vertex 0 0 0) ≡ v
   in_layer v k =
       ap (λ l. get_or l (before_in_layer d v) (vertex 0 0 0)) (layer_rows v.h)
       ∙ ap (λ m. get_or (flat_map (row_at v.h) (range_with_len 0 (row_len d.ny v.h))) (m + v.x / 2) (vertex 0 0 0)) (sym (rows_length v.h (v.y / 2)))
@@ -155,7 +156,7 @@ module _ (d : Dims) where
       place : (j i m n : ℕ) → j < m → i < n → j * n + i < m * n
       place j i m n hj hi = let a : (j + 1) * n ≤ m * n = mul-le-mul_right n (let h : j + 1 ≤ m = omega arith in h) in omega arith
 
-  at_place : (v : Vertex) → InDomain d v → vertex_at d (below_layer d v.h + before_in_layer d v) ≡ v
+  pub at_place : (v : Vertex) → InDomain d v → vertex_at d (below_layer d v.h + before_in_layer d v) ≡ v
   unfolding vertices
   at_place v k =
       ap (λ m. get_or (flat_map (layer d) (range_with_len 0 (layers d))) (m + before_in_layer d v) (vertex 0 0 0)) (sym (layers_length v.h))
@@ -163,7 +164,7 @@ module _ (d : Dims) where
       ∙ ap (λ j. get_or (layer d j) (before_in_layer d v) (vertex 0 0 0)) (zero-add v.h)
       ∙ in_layer v k
 
-  below_rises : (j n : ℕ) → below_layer d j ≤ below_layer d (j + n)
+  pub below_rises : (j n : ℕ) → below_layer d j ≤ below_layer d (j + n)
   below_rises j zero = let e : below_layer d (j + 0) ≡ below_layer d j = ap (below_layer d) (add-zero j) in omega arith
   below_rises j (suc n) =
       let e : below_layer d (j + suc n) ≡ below_layer d (j + n + 1) = ap (below_layer d) (let s : j + suc n ≡ j + n + 1 = omega arith in s) in
@@ -384,6 +385,53 @@ module _ (d : Dims) (is : IsDims d) (n : ℕ) (below : n < length (vertices d)) 
 
       plain : (p e r : ℕ) → e ≤ r → p + 1 * e + (r - e) ≡ p + r
       plain p e r le = omega arith
+
+-- the vertices of a layer by their places in it
+module _ (d : Dims) (h : ℕ) (is : IsDims d) (lt : h < layers d) where
+  in_place : (p : ℕ) → p < layer_len d h → PlaceInLayer d h p
+  in_place p below = place_of_row d h p is lt (subst (λ n. p < n) (layer_length d h) below)
+
+  pub vertex_at_place : (p : ℕ) → p < layer_len d h → vertex_at d (below_layer d h + p) ≡ vertex_in_layer d h p
+  vertex_at_place p below =
+      let i = in_place p below in
+      ap (λ n. vertex_at d (below_layer d h + n)) (sym i.place) ∙ at_place d (vertex_in_layer d h p) i.domain
+
+  pub layer_listed : layer d h ≡ map (vertex_in_layer d h) (range_with_len 0 (layer_len d h))
+  layer_listed =
+      fill_by_all (vertex_in_layer d h) (layer d h) (layer_len d h) (vertex 0 0 0) refl
+      (λ p below. let i = in_place p below in ap (λ n. get_or (layer d h) n (vertex 0 0 0)) (sym i.place) ∙ in_layer d (vertex_in_layer d h p) i.domain)
+
+-- a layer ends where the next begins, within all vertices
+pub layer_within : (d : Dims) (h : ℕ) → h < layers d → below_layer d h + layer_len d h ≤ length (vertices d)
+layer_within d h lt =
+    let n = layers d - (h + 1) in
+    let e : h + 1 + n ≡ layers d = omega arith in
+    let r : below_layer d (h + 1) ≤ below_layer d (layers d) = subst (λ m. below_layer d (h + 1) ≤ below_layer d m) e (below_rises d (h + 1) n) in
+    let g = below_grows d h in
+    let c = all_length d in
+    chain (below_layer d h) (below_layer d (h + 1)) (layer_len d h) (below_layer d (layers d)) (length (vertices d)) g r c
+  where
+    chain : (a b l t c : ℕ) → b ≡ a + l → b ≤ t → c ≡ t → a + l ≤ c
+    chain a b l t c g r e = omega arith
+
+pub vertices_listed : (d : Dims) → vertices d ≡ map (vertex_at d) (range_with_len 0 (length (vertices d)))
+vertices_listed d = fill_by_all (vertex_at d) (vertices d) (length (vertices d)) (vertex 0 0 0) refl (λ k h. refl)
+
+-- the i-th vertex of row j of a layer
+pub vertex_of_row : (d : Dims) (h j i : ℕ) → i < row_len d.nx h → vertex_in_layer d h (j * row_len d.nx h + i) ≡ vertex h (j * 2 + h % 2) (i * 2 + h % 2)
+vertex_of_row d h j i lt =
+    let q : (j * row_len d.nx h + i) / row_len d.nx h ≡ j = div-mul-add j (row_len d.nx h) i lt in
+    let r : (j * row_len d.nx h + i) % row_len d.nx h ≡ i = rest j (row_len d.nx h) i lt q in
+    (λ t. vertex h (q t * 2 + h % 2) (r t * 2 + h % 2))
+  where
+    rest : (j w i : ℕ) → i < w → (j * w + i) / w ≡ j → (j * w + i) % w ≡ i
+    rest j w i lt q =
+        let e : (j * w + i) / w * w ≡ j * w = ap (λ n. n * w) q in
+        let m : (j * w + i) / w * w + (j * w + i) % w ≡ j * w + i = whole (j * w + i) w (let p : 0 < w = omega arith in p) in
+        omega arith
+      where
+        whole : (p w : ℕ) → 0 < w → p / w * w + p % w ≡ p
+        whole p w w0 = omega arith
 
 pub layers_count_vertices : LayersCountVertices
 layers_count_vertices d = record {

@@ -20,6 +20,7 @@ use Rattle.lattice_laws.proofs.LaterNeighbours.{neighbour_leads, neighbour_led}
 use Rattle.lattice_laws.proofs.EdgeSteps.{back_from}
 use Rattle.lattice_laws.proofs.Vertices.{domain_in}
 use Rattle.snap_laws.specs.Laws.{CutsLeftAreInner}
+use Rattle.snap_laws.proofs.StatesAre.{at_most_scale}
 
 -- ---- a vertex that was not moved has no near cut
 
@@ -117,24 +118,6 @@ module _ (f : Field) (s : Shares) (u w : Vertex) (dir : ℕ) (low : 1 ≤ dir) (
     where
       less : dir + 7 - 7 ≡ dir
       less = omega arith
-
-  -- a cut's number is at most the scale
-  at_most_scale : (a b : ℕ) → cut_between a b ≤ 4096
-  unfolding cut_between
-  at_most_scale a b = go (positive (a + b))
-    where
-      positive : (n : ℕ) → (n ≡ 0) ⊎ (0 < 2 * n)
-      positive n = grind arith
-
-      go : (a + b ≡ 0) ⊎ (0 < 2 * (a + b)) → (2 * scale * a + a + b) / (2 * (a + b)) ≤ 4096
-      go (inl e) = let z : (2 * scale * a + a + b) / (2 * (a + b)) ≡ 0 = (λ i. (2 * scale * a + a + b) / (2 * e i)) ∙ over_zero (2 * scale * a + a + b) in omega arith
-        where
-          over_zero : (n : ℕ) → n / 0 ≡ 0
-          over_zero n = omega arith
-      go (inr h) = let q : (2 * scale * a + a + b) / (2 * (a + b)) < 4097 = (div-lt_iff_lt-mul h).1 (fits a b h) in omega arith
-        where
-          fits : (a b : ℕ) → 0 < 2 * (a + b) → 2 * 4096 * a + a + b < 4097 * (2 * (a + b))
-          fits a b h = omega arith
 
   pub cut_left : are_opposite (sign_of_state (state_of f s u)) (sign_of_state (state_of f s w)) ≡ true → IsSomeAnd (cut_number (value f u) (value f w)) (λ k. (1 ≤ k) × (k ≤ 4095))
   unfolding cut_number

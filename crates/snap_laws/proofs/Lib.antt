@@ -1,3 +1,4 @@
 pub mod Ranks
 pub mod ByValues
 pub mod CutsLeft
+pub mod StatesAre

@@ -1,5 +1,5 @@
 -- Snapping by the values around a vertex alone: no ids, and no neighbours but their values.
-use Rattle.std.specs.Prelude.{ℕ, ◌+◌, ◌-◌, Bool, List, filter_map, ℤ, pos, Option, option_and_then, slice_index_or, if◌then◌else◌}
+use Rattle.std.specs.Prelude.{ℕ, ◌+◌, ◌-◌, ◌≤◌, Bool, List, filter_map, ℤ, pos, Option, option_and_then, slice_index_or, if◌then◌else◌}
 use Rattle.std.specs.Option.{option_map_or}
 use Rattle.std.specs.List.{range_with_len}
 use Rattle.definitions.specs.declared.Vertex.{Vertex}
@@ -41,3 +41,9 @@ nears_here s own values = filter_map (λ edge. near_here s own (value_on values 
 
 unfoldable pub state_here : Shares → ℤ → List ℤ → State
 state_here s own values = snapped (sign_of own) (least_by is_nearer (nears_here s own values))
+
+-- a cut on an edge 1 to 14, with a number up to the scale
+pub record IsNearCut (n : Near) : Type 0 where
+  pub low : 1 ≤ n.edge
+  pub high : n.edge ≤ 14
+  pub within : n.k ≤ 4096

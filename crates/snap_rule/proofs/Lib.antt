@@ -1,2 +1,4 @@
+pub mod Codes
 pub mod Divisions
+pub mod Places
 pub mod Values

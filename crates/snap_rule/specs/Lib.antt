@@ -1,3 +1,4 @@
+pub mod Codes
 pub mod Near
 pub use Rattle.definitions.specs.States
 pub use Rattle.snap_laws.specs.Around

@@ -2,11 +2,15 @@
 //! vertices after it.
 #![tactic(auto)]
 
+mod layers;
 mod near;
 mod shares;
 mod state;
+mod states;
 mod values_around;
 mod vertex;
 
+pub use layers::layer_states;
 pub use shares::Shares;
+pub use states::{States, all_states};
 pub use vertex::vertex_state;

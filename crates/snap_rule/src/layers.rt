@@ -1,0 +1,109 @@
+ghost use Rattle.std.specs.Prelude.{◌≡◌, ℕ, ◌+◌, ◌*◌, ◌%◌, ◌^◌, ◌<◌, ◌≤◌, length, map, slice_index};
+ghost use Rattle.definitions.specs.Lattice.{IsDims, layer, layers, vertex, vertices};
+ghost use Rattle.definitions.specs.Layout.{layer_len};
+ghost use Rattle.definitions.specs.States.{code, state_of};
+ghost use Rattle.lattice_counts.specs.Counts.{row_len, vertex_in_layer};
+
+use crate::Shares;
+use crate::vertex::state_at;
+use bcc_lattice::code;
+use samples::Field;
+use st_base::{Ledger, Vertex};
+
+/// The numbers of rows of a layer, and of vertices in each.
+#[derive(Clone, Copy)]
+pub struct LayerSize {
+    pub rows: u32,
+    pub row: u32,
+}
+
+/// The size of a layer.
+#[tactic(auto, using(lattice_counts::proofs::Sizes::nx_small, lattice_counts::proofs::Sizes::ny_small))]
+pub fn layer_size(field: &Field, h: u32) -> LayerSize
+    ensures rows { result.rows ≡ row_len field.now.dims.ny h }
+    ensures row { result.row ≡ row_len field.now.dims.nx h }
+    ensures sizes { IsDims field.now.dims }
+{
+    let dims = field.dims();
+    LayerSize {
+        rows: dims.ny + 2 - h % 2,
+        row: dims.nx + 2 - h % 2,
+    }
+}
+
+/// Writes the codes of row `j` of a layer from a place on.
+#[tactic(auto, using(lattice_counts::proofs::Sizes::nx_small, lattice_counts::proofs::Sizes::ny_small))]
+fn write_row(field: &Field, shares: Shares, h: u32, j: u32, start: usize, out: &mut [u64])
+    requires layer { h < layers field.now.dims }
+    requires row { j < row_len field.now.dims.ny h }
+    requires room { start + row_len field.now.dims.nx h ≤ length out.old }
+    ensures row { (i : ℕ) → i < row_len field.now.dims.nx h → slice_index out.new (start + i) ≡ code (state_of field.now shares (vertex h (j * 2 + h % 2) (i * 2 + h % 2))) }
+    ensures below { (k : ℕ) → k < start → slice_index out.new k ≡ slice_index out.old k }
+{
+    let size = layer_size(field, h);
+    let y = j * 2 + h % 2;
+    for i in 0..size.row {
+        let v = Vertex {
+            h,
+            y,
+            x: i * 2 + h % 2,
+        };
+        out[start + i as usize] = code(state_at(field, shares, v));
+    }
+}
+
+/// Writes the codes of a layer from a place on, and answers where they end.
+pub fn write_layer(field: &Field, shares: Shares, h: u32, start: usize, out: &mut [u64]) -> usize
+    requires layer { h < layers field.now.dims }
+    requires room { start + layer_len field.now.dims h ≤ length out.old }
+    ensures layer { (p : ℕ) → p < layer_len field.now.dims h → slice_index out.new (start + p) ≡ code (state_of field.now shares (vertex_in_layer field.now.dims h p)) }
+    ensures below { (k : ℕ) → k < start → slice_index out.new k ≡ slice_index out.old k }
+    ensures end { result ≡ start + layer_len field.now.dims h }
+    ensures sizes { IsDims field.now.dims }
+{
+    let size = layer_size(field, h);
+    let mut at = start;
+    for j in 0..size.rows {
+        write_row(field, shares, h, j, at, out);
+        at += size.row as usize;
+    }
+    at
+}
+
+/// Writes the codes of a layer, in order, and has the ledger count its vertices.
+pub fn layer_states<L: Ledger>(
+    field: &Field,
+    shares: Shares,
+    h: u32,
+    ledger: &mut L,
+    out: &mut [u64],
+)
+    requires layer { h < layers field.now.dims }
+    requires len { length out.old ≡ layer_len field.now.dims h }
+    requires room { L.count ledger.old + layer_len field.now.dims h < 2 ^ 64 }
+    ensures codes { out.new ≡ map (λ v. code (state_of field.now shares v)) (layer field.now.dims h) }
+    ensures count { L.count ledger.new ≡ L.count ledger.old + layer_len field.now.dims h }
+{
+    ledger.add(out.len() as u64);
+    let _end = write_layer(field, shares, h, 0, out);
+}
+
+/// Writes the codes of all vertices, in order.
+pub fn write_all(field: &Field, shares: Shares, out: &mut [u64])
+    requires { length out.old ≡ length (vertices field.now.dims) }
+    ensures { out.new ≡ map (λ v. code (state_of field.now shares v)) (vertices field.now.dims) }
+{
+    let mut at = 0;
+    for h in 0..layers_of(field) {
+        at = write_layer(field, shares, h, at, out);
+    }
+}
+
+/// The number of layers.
+#[tactic(auto, using(lattice_counts::proofs::Sizes::nz_small))]
+fn layers_of(field: &Field) -> u32
+    ensures layers { result ≡ layers field.now.dims }
+    ensures sizes { IsDims field.now.dims }
+{
+    2 * field.dims().nz + 3
+}

@@ -1,0 +1,121 @@
+ghost use Rattle.std.specs.Prelude.{◌≡◌, ◌+◌, ◌^◌, ◌<◌, All, IfOk, IsTrue, OnErr, OnOk, length, map, slice_index};
+ghost use Rattle.definitions.specs.Lattice.{IsDims, InDomain, id, vertices};
+ghost use Rattle.definitions.specs.Mesh.{state_at};
+ghost use Rattle.definitions.specs.States.{IsState, code, state_of, states};
+ghost use Rattle.snap_rule.specs.Codes.{is_code, state_of_code};
+
+use crate::Shares;
+use crate::layers::write_all;
+use bcc_lattice::{id, vertex_count};
+use definitions::State;
+use samples::Field;
+use st_base::{Dims, Ledger, NoMemory, Vertex};
+use std::alloc::Global;
+use std::marker::Model;
+
+/// The state of a word that is a code.
+pub fn decode(word: u64) -> State
+    requires { IsTrue (is_code word) }
+    ensures state { result ≡ state_of_code word }
+    ensures is_state { IsState result }
+{
+    match word {
+        1 => State::Minus,
+        3 => State::Plus,
+        _ => State::Zero {
+            edge: (word / 4 % 16) as u8,
+            k: (word / 64) as u16,
+        },
+    }
+}
+
+/// The states of all vertices, each kept as its code. Contracts see the sizes and the list of states.
+#[derive(Drop)]
+pub struct States {
+    dims: Dims,
+    codes: Vec<u64>,
+}
+
+impl Model for States {
+    ghost use Rattle.std.specs.Prelude.{map};
+    ghost use Rattle.snap_rule.specs.Codes.{AreCodes, StateList, state_of_code};
+
+    ghost Value = { StateList };
+
+    ghost view = { λ s. record { dims = s.dims; states = map state_of_code s.codes.items } };
+
+    ghost invariant = { λ s. AreCodes s.dims s.codes.items };
+}
+
+impl States {
+    ghost use Rattle.snap_rule.specs.Codes.{AreCodes, StateList};
+
+    /// The states of these codes, one for each vertex in order.
+    pub fn of_codes(dims: Dims, codes: Vec<u64>) -> States
+        requires { AreCodes dims codes.items }
+        ensures { result ≡ record { dims = dims; states = map state_of_code codes.items } }
+    {
+        States { dims, codes }
+    }
+
+    /// The sizes.
+    pub fn dims(&self) -> Dims
+        ensures dims { result ≡ self.now.dims }
+        ensures sizes { IsDims result }
+    {
+        self.dims
+    }
+
+    /// The state of a vertex.
+    pub fn state(&self, v: Vertex) -> State
+        requires { InDomain self.now.dims v }
+        ensures state { result ≡ state_at self.now.states (id self.now.dims v) }
+        ensures is_state { IsState result }
+    {
+        decode(word(&self.codes, id(self.dims, v) as usize))
+    }
+}
+
+fn word(words: &[u64], n: usize) -> u64
+    requires within { n < length words.now }
+    requires codes { All (λ word. IsTrue (is_code word)) words.now }
+    ensures word { result ≡ slice_index words.now n }
+    ensures code { IsTrue (is_code result) }
+{
+    words[n]
+}
+
+/// The codes of all vertices, in order.
+fn codes_of(alloc: Global, field: &Field, shares: Shares) -> Result<Vec<u64>, NoMemory>
+    ensures { IfOk result (λ codes. codes.items ≡ map (λ v. code (state_of field.now shares v)) (vertices field.now.dims)) }
+{
+    let count = vertex_count(field.dims());
+    let Ok(mut codes) = vec![in alloc; 0u64; count as usize] else {
+        return Err(NoMemory);
+    };
+    write_all(field, shares, codes.as_mut_slice());
+    Ok(codes)
+}
+
+/// The states of all vertices, which the ledger counts. NoMemory leaves the ledger as it was.
+pub fn all_states<L: Ledger>(
+    alloc: Global,
+    field: &Field,
+    shares: Shares,
+    ledger: &mut L,
+) -> Result<States, NoMemory>
+    requires room { L.count ledger.old + length (vertices field.now.dims) < 2 ^ 64 }
+    ensures dims { IfOk result (λ s. s.dims ≡ field.now.dims) }
+    ensures states { IfOk result (λ s. s.states ≡ states field.now shares) }
+    ensures count { OnOk result (L.count ledger.new ≡ L.count ledger.old + length (vertices field.now.dims)) }
+    ensures unchanged { OnErr result (L.count ledger.new ≡ L.count ledger.old) }
+{
+    let dims = field.dims();
+    match codes_of(alloc, field, shares) {
+        Ok(codes) => {
+            ledger.add(vertex_count(dims) as u64);
+            Ok(States::of_codes(dims, codes))
+        }
+        Err(fault) => Err(fault),
+    }
+}
