@@ -131,6 +131,12 @@ fn keys_of_case(keys: &[u32; 10], case: &Case) -> Pieces
     ensures { take result.len result.of ≡ map (map (λ n. slice_index keys.now n)) (listed case.now) }
 {
     let [p, q, r] = case.of;
+    if case.len == 1 {
+        return Pieces {
+            len: 1,
+            of: [keys_at(keys, p), [0; 4], [0; 4]],
+        };
+    }
     Pieces {
         len: case.len,
         of: [keys_at(keys, p), keys_at(keys, q), keys_at(keys, r)],
