@@ -1,6 +1,8 @@
 //! Carries out a command line over files, standard output and standard error.
 #![tactic(auto)]
 
+ghost use Rattle.std.specs.Prelude.{◌≡◌, IsSome, length};
+
 mod help;
 mod input;
 mod put;
@@ -39,7 +41,9 @@ fn words_of(rt: &(impl Env + AllocGlobal), alloc: Global) -> Result<Words, NoMem
 }
 
 // What is printed in place of a command, where the only word asks for it.
-fn answer(words: &Words) -> Option<&'static str> {
+fn answer(words: &Words) -> Option<&'static str>
+    ensures { IsSome result → length words.now ≡ 1 }
+{
     if words.len() != 1 {
         return None;
     }
