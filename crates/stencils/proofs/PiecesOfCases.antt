@@ -3,7 +3,7 @@ use Rattle.std.proofs.Common.{◌≡◌, ℕ, Bool, true, false, ◌&&◌, nat_l
 use Rattle.std.specs.Prelude.{slice_index}
 use Rattle.std.specs.List.{list_all}
 use Rattle.std.proofs.lemmas.Bool.{ltb-true}
-use Rattle.std.proofs.lemmas.List.{get_or-map, take-map}
+use Rattle.std.proofs.lemmas.List.{get_or-map, length-map, take-map}
 use Rattle.std.proofs.lemmas.Simd.{map-map}
 use Rattle.definitions.specs.declared.Vertex.{Vertex}
 use Rattle.definitions.specs.declared.Sign.{Sign}
@@ -112,16 +112,24 @@ module _ (tet : List Vertex) (ids : List ℕ) (signs : List Sign) (h : IsNumbere
   entry_of true = fits.turned
   entry_of false = fits.straight
 
-  -- and else the pieces are those of its entry, with the keys filled in
-  pub pieces_of_row :
-      (frame : Frame) (case : Case) (keys : List ℕ) → FitsFrame tet frame → case ≡ (if frame.is_turned then row.turned else row.straight) → keys ≡ ten_keys ids frame.directions
-      → map (map (λ n. slice_index keys n)) (listed case) ≡ pieces tet ids signs
-  pieces_of_row frame case keys f is_entry are_keys =
-      let key = corner_key tet ids in
-      let has : IsCase (is_turned tet) signs case =
-      subst (λ (entry : Case). IsCase (is_turned tet) signs entry) (sym (is_entry ∙ (λ i. if f.turned i then row.turned else row.straight))) (entry_of (is_turned tet)) in
-      let all : keys ≡ map key corners = are_keys ∙ ((λ i. ten_keys ids (f.directions i)) ∙ ten_keys-of_edges tet ids) in
-      (λ i. map (map (λ n. slice_index (all i) n)) (listed case))
-      ∙ (keys_of_entry key case has.places
-      ∙ (ap (map (map key)) has.pieces
-      ∙ sym (pieces_of_case tet ids signs h len)))
+  module _ (frame : Frame) (case : Case) (f : FitsFrame tet frame) (is_entry : case ≡ (if frame.is_turned then row.turned else row.straight)) where
+    entry_fits : IsCase (is_turned tet) signs case
+    entry_fits = subst (λ (entry : Case). IsCase (is_turned tet) signs entry) (sym (is_entry ∙ (λ i. if f.turned i then row.turned else row.straight))) (entry_of (is_turned tet))
+
+    -- and else the pieces are those of its entry, with the keys filled in
+    pub pieces_of_row : (keys : List ℕ) → keys ≡ ten_keys ids frame.directions → map (map (λ n. slice_index keys n)) (listed case) ≡ pieces tet ids signs
+    pieces_of_row keys are_keys =
+        let key = corner_key tet ids in
+        let all : keys ≡ map key corners = are_keys ∙ ((λ i. ten_keys ids (f.directions i)) ∙ ten_keys-of_edges tet ids) in
+        (λ i. map (map (λ n. slice_index (all i) n)) (listed case))
+        ∙ (keys_of_entry key case entry_fits.places
+        ∙ (ap (map (map key)) entry_fits.pieces
+        ∙ sym (pieces_of_case tet ids signs h len)))
+
+    pub len_of_row : case.len ≡ length (pieces tet ids signs)
+    len_of_row =
+        sym entry_fits.count
+        ∙ (sym (length-map (listed case) (map corner_at))
+        ∙ (ap length entry_fits.pieces
+        ∙ (sym (length-map (case_pieces (is_turned tet) signs) (map (corner_key tet ids)))
+        ∙ ap length (sym (pieces_of_case tet ids signs h len)))))

@@ -1,5 +1,6 @@
 -- Each of the 81 rows of the table has the pieces of its signs: one computation, and its use at four signs.
-use Rattle.std.proofs.Common.{◌≡◌, ℕ, Bool, true, false, ◌&&◌, List, [], length, map, refl}
+use Rattle.std.proofs.Common.{◌≡◌, ℕ, Bool, true, false, ◌&&◌, nat_eq, List, [], length, map, refl}
+use Rattle.std.proofs.lemmas.Bool.{eqb-true}
 use Rattle.std.specs.Prelude.{slice_index_or}
 use Rattle.definitions.specs.declared.Sign.{Sign}
 use Rattle.definitions.specs.Stencils.{kept, facets}
@@ -21,7 +22,7 @@ abbrev pub row_at : ℕ → Row
 row_at n = slice_index_or ROWS n (record { straight = no_case; turned = no_case })
 
 abbrev is_case : Bool → List Sign → Case → Bool
-is_case turned signs case = same_pieces (map (map corner_at) (listed case)) (case_pieces turned signs) && has_places case
+is_case turned signs case = same_pieces (map (map corner_at) (listed case)) (case_pieces turned signs) && (has_places case && nat_eq (length (listed case)) case.len)
 
 abbrev is_row : List Sign → Row → Bool
 is_row signs row = is_case false signs row.straight && is_case true signs row.turned
@@ -33,7 +34,8 @@ all_rows_fit = refl
 from_test : (turned : Bool) (signs : List Sign) (case : Case) → is_case turned signs case ≡ true → IsCase turned signs case
 from_test turned signs case e =
     let f = both_true (same_pieces (map (map corner_at) (listed case)) (case_pieces turned signs)) _ e in
-    record { pieces = pieces_from_same _ _ f.0; places = f.1 }
+    let g = both_true (has_places case) _ f.1 in
+    record { pieces = pieces_from_same _ _ f.0; places = g.0; count = eqb-true _ _ g.1 }
 
 pub row_fits : (signs : List Sign) → length signs ≡ 4 → FitsCase signs (row_at (row_place signs))
 row_fits signs len =

@@ -1,5 +1,5 @@
 -- The pieces of a lattice tetrahedron by its four signs and its orientation, and the table of them.
-use Rattle.std.specs.Prelude.{◌≡◌, ℕ, ◌+◌, ◌*◌, Bool, true, false, nat_lt, IsTrue, List, [], ◌∷◌, map, take, slice_index_or, pos, int_lt}
+use Rattle.std.specs.Prelude.{◌≡◌, ℕ, ◌+◌, ◌*◌, Bool, true, false, nat_lt, IsTrue, List, [], ◌∷◌, length, map, take, slice_index_or, pos, int_lt}
 use Rattle.std.specs.List.{list_all}
 use Rattle.definitions.specs.declared.Vertex.{Vertex}
 use Rattle.definitions.specs.declared.Sign.{Sign}
@@ -43,6 +43,7 @@ has_places case = list_all (list_all (λ n. nat_lt n 10)) case.of
 pub record IsCase (turned : Bool) (signs : List Sign) (case : Case) : Type 0 where
   pub pieces : map (map corner_at) (listed case) ≡ case_pieces turned signs
   pub places : IsTrue (has_places case)
+  pub count : length (listed case) ≡ case.len
 
 pub record FitsCase (signs : List Sign) (row : Row) : Type 0 where
   pub straight : IsCase false signs row.straight

@@ -5,7 +5,7 @@
 //! besides: the pieces are a row of a table, with the keys filled in.
 #![tactic(auto)]
 
-ghost use Rattle.std.specs.Prelude.{◌≡◌, ◌+◌, ◌*◌, ◌^◌, ◌<◌, All, IsTrue, nat_lt, map, position, slice_index, take, if◌then◌else◌};
+ghost use Rattle.std.specs.Prelude.{◌≡◌, ◌+◌, ◌*◌, ◌^◌, ◌<◌, All, IsTrue, length, nat_lt, map, position, slice_index, take, if◌then◌else◌};
 ghost use Rattle.std.specs.List.{list_all};
 ghost use Rattle.definitions.specs.Pieces.{pieces as pieces_of, corner_key};
 ghost use Rattle.lattice_laws.specs.NumberedTetrahedra.{IsNumberedTet, is_corner, rank};
@@ -28,7 +28,8 @@ pub use tet::Tet;
 pub fn pieces(tet: &Tet, signs: [Sign; 4]) -> Pieces
     requires fit { All (λ id. 8 * id + 7 < 2 ^ 32) tet.now.ids }
     requires tet { IsNumberedTet tet.now.at tet.now.ids }
-    ensures { take result.len result.of ≡ pieces_of tet.now.at tet.now.ids signs }
+    ensures pieces { take result.len result.of ≡ pieces_of tet.now.at tet.now.ids signs }
+    ensures len { result.len ≡ length (pieces_of tet.now.at tet.now.ids signs) }
 {
     let row = row_of_signs(signs);
     if row.straight.len == 0 {
@@ -128,7 +129,8 @@ fn keys_of(ids: [u32; 4], directions: [u32; 6]) -> [u32; 10]
 // The pieces of a case, with these keys.
 fn keys_of_case(keys: &[u32; 10], case: &Case) -> Pieces
     requires { IsTrue (has_places case.now) }
-    ensures { take result.len result.of ≡ map (map (λ n. slice_index keys.now n)) (listed case.now) }
+    ensures len { result.len ≡ case.now.len }
+    ensures pieces { take result.len result.of ≡ map (map (λ n. slice_index keys.now n)) (listed case.now) }
 {
     let [p, q, r] = case.of;
     if case.len == 1 {
