@@ -16,13 +16,12 @@ ghost use Rattle.stencils.specs.Frames.{ten_keys, are_directions};
 mod cases;
 mod filled;
 mod frames;
-mod tet;
 
+pub use bcc_lattice::Tet;
 use cases::{Case, Row, row_of_signs};
 pub use definitions::{Corner, Sign, Vertex};
 pub use filled::Pieces;
 use frames::frame_of;
-pub use tet::Tet;
 
 /// The pieces of a lattice tetrahedron with these signs: the keys of their nodes, oriented and in order.
 pub fn pieces(tet: &Tet, signs: [Sign; 4]) -> Pieces
