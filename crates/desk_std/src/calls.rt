@@ -1,5 +1,6 @@
-ghost use Rattle.std.specs.Prelude.{◌≡◌, ◌<◌, length, Ok, IfOk, IfSome};
+ghost use Rattle.std.specs.Prelude.{◌≡◌, ◌<◌, length, Ok, IfOk, IsErr, MatchOption, MatchResult};
 ghost use Rattle.std.specs.Io.{ReadsAtMost, WritesAtMost};
+ghost use Rattle.std.specs.Io.KnownBytes.{ReadConsumes, WriteAppends};
 
 use st_base::Failed;
 use std::fs::OpenOptions;
@@ -12,7 +13,7 @@ const TRIES: u32 = 1001;
 
 /// What a call came to, or `None` where it was interrupted.
 fn settled<T: Drop>(answer: io::Result<T>) -> Option<Result<T, Failed>>
-    ensures { IfSome result (λ done. IfOk done (λ value. answer ≡ Ok value)) }
+    ensures { MatchOption result (IsErr answer) (λ done. MatchResult done (λ value. answer ≡ Ok value) (λ _. IsErr answer)) }
 {
     match answer {
         Ok(value) => Some(Ok(value)),
@@ -40,7 +41,8 @@ pub fn open_file<R: Files>(
 
 /// One read.
 pub fn read_some<F: Read>(file: &mut F, into: &mut [u8]) -> Result<usize, Failed>
-    ensures { ReadsAtMost result into.new }
+    ensures bound { ReadsAtMost result into.new }
+    ensures bytes { ReadConsumes (F.remaining file.old) (F.remaining file.new) result into.new }
 {
     for _ in 0..TRIES {
         if let Some(done) = settled(file.read(into)) {
@@ -50,16 +52,26 @@ pub fn read_some<F: Read>(file: &mut F, into: &mut [u8]) -> Result<usize, Failed
     Err(Failed)
 }
 
+/// A write that took none of the bytes that there are has failed.
+fn some_taken(done: Result<usize, Failed>, bytes: &[u8]) -> Result<usize, Failed>
+    ensures some { 0 < length bytes.now → IfOk result (λ n. 0 < n) }
+    ensures taken { MatchResult result (λ n. done ≡ Ok n) (λ _. IfOk done (λ n. n ≡ 0)) }
+{
+    match done {
+        Ok(0) if !bytes.is_empty() => Err(Failed),
+        _ => done,
+    }
+}
+
 /// One write, which fails where it takes none of the bytes that there are.
 pub fn write_some<F: Write>(file: &mut F, bytes: &[u8]) -> Result<usize, Failed>
     ensures bound { WritesAtMost result bytes.now }
     ensures some { 0 < length bytes.now → IfOk result (λ n. 0 < n) }
+    ensures bytes { WriteAppends (F.contents file.old) (F.contents file.new) result bytes.now }
 {
     for _ in 0..TRIES {
-        match settled(file.write(bytes)) {
-            Some(Ok(0)) if !bytes.is_empty() => return Err(Failed),
-            Some(done) => return done,
-            None => {}
+        if let Some(done) = settled(file.write(bytes)) {
+            return some_taken(done, bytes);
         }
     }
     Err(Failed)

@@ -1,5 +1,7 @@
-ghost use Rattle.std.specs.Prelude.{◌≡◌, ◌<◌, ◌≤◌, length, true, false, None, Some, is_some, OnOk, OnErr, IfOk};
+ghost use Rattle.std.specs.Prelude.{◌≡◌, ◌<◌, ◌≤◌, length, true, false, None, Some, is_some, OnOk, OnErr, IfOk, IsOk, IsErr};
 ghost use Rattle.std.specs.Io.{ReadsAtMost, WritesAtMost};
+ghost use Rattle.std.specs.Io.KnownBytes.{ReadConsumes, WriteAppends};
+ghost use Rattle.std.specs.Option.{option_and_then};
 ghost use Rattle.st_base.specs.Causes.{HasCause, Rose};
 
 use crate::calls::{flush, read_some, write_some};
@@ -35,7 +37,8 @@ impl<F: Drop> End<F> {
 
     /// Takes the file that was opened.
     pub fn open(&mut self, opened: Result<F, Failed>) -> Result<(), Failed>
-        ensures opened { OnOk result (is_some self.new.file ≡ true) }
+        ensures opened { IfOk opened (λ file. (self.new.file ≡ Some file) × IsOk result) }
+        ensures refused { OnErr opened (IsErr result) }
         ensures as_before { OnErr result (self.new.file ≡ self.old.file) }
         ensures cause { HasCause self.old.faults self.new.faults result }
     {
@@ -54,6 +57,8 @@ impl<F: Read + Drop> End<F> {
     pub fn read(&mut self, into: &mut [u8]) -> Result<usize, Failed>
         requires { is_some self.old.file ≡ true }
         ensures bound { ReadsAtMost result into.new }
+        ensures bytes { ReadConsumes (option_and_then F.remaining self.old.file)
+            (option_and_then F.remaining self.new.file) result into.new }
         ensures is_open { is_some self.new.file ≡ true }
         ensures cause { HasCause self.old.faults self.new.faults result }
     {
@@ -71,6 +76,8 @@ impl<F: Write + Drop> End<F> {
         requires { is_some self.old.file ≡ true }
         ensures bound { WritesAtMost result bytes.now }
         ensures some { 0 < length bytes.now → IfOk result (λ n. 0 < n) }
+        ensures bytes { WriteAppends (option_and_then F.contents self.old.file)
+            (option_and_then F.contents self.new.file) result bytes.now }
         ensures is_open { is_some self.new.file ≡ true }
         ensures cause { HasCause self.old.faults self.new.faults result }
     {
