@@ -1,10 +1,10 @@
 -- The tetrahedra that are pushed one after another are those of the six triples of directions, and so the ones of the definition.
-use Rattle.std.proofs.Common.{◌≡◌, ℕ, inl, inr, refl, sym, ap, ◌∙◌, subst, true, List, [], ◌∷◌, ◌++◌, map, Option, Some, None, append_assoc}
-use Rattle.std.specs.Prelude.{fold, filter_map, option_and_then, option_map, option_to_list, All, ⊤, IfSome}
+use Rattle.std.proofs.Common.{◌≡◌, ℕ, inl, inr, refl, sym, ap, ◌∙◌, subst, List, [], ◌∷◌, ◌++◌, map, Option, Some, None, append_assoc}
+use Rattle.std.specs.Prelude.{option_and_then, option_map, option_to_list, All, IfSome}
 use Rattle.std.specs.List.{cons_option, AllByRecursion}
 use Rattle.definitions.specs.declared.Dims.{Dims}
 use Rattle.definitions.specs.declared.Vertex.{Vertex}
-use Rattle.definitions.specs.Lattice.{InDomain, id, neighbour, vertices, are_neighbours}
+use Rattle.definitions.specs.Lattice.{InDomain, id, vertices, are_neighbours}
 use Rattle.definitions.specs.Tetrahedra.{IsLatticeTet, tets_from, lattice_tets}
 use Rattle.lattice_laws.specs.Ascending.{Has}
 use Rattle.lattice_laws.specs.NumberedTetrahedra.{IsNumberedTet}
@@ -12,7 +12,7 @@ use Rattle.lattice_laws.proofs.KeyOrder.{tet_ids_rise}
 use Rattle.lattice_laws.proofs.ListedTetrahedra.{lattice_tets_listed}
 use Rattle.lattice_laws.proofs.Members.{has_flat_map}
 use Rattle.lattice_laws.proofs.Sublists.{all_by_place}
-use Rattle.lattice_laws.proofs.TetrahedraFromLowest.{all_of, triples, vertex_in, adjacent, tets_by_triples}
+use Rattle.lattice_laws.proofs.TetrahedraFromLowest.{all_of, vertex_in, adjacent, tets_by_triples}
 use Rattle.lattice_laws.proofs.Vertices.{has_vertex}
 use Rattle.bcc_lattice.specs.declared.tetrahedra.Tet.{Tet}
 use Rattle.bcc_lattice.specs.declared.tetrahedra.Numbered.{Numbered}

@@ -21,3 +21,6 @@ pub use places::{cut_place, place};
 pub use state::{code, state_of};
 pub use tetrahedra::{Tet, TetsAt, tets_at};
 pub use vertices::{id, in_domain, neighbour, vertex_count, vertex_of};
+
+#[cfg(test)]
+mod tests;

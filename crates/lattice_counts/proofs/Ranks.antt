@@ -14,7 +14,7 @@ use Rattle.definitions.specs.Layout.{layer_len, layer_start}
 use Rattle.lattice_laws.proofs.AscendingLists.{flat_map_map, all_map, all_flat_map}
 use Rattle.lattice_laws.proofs.Vertices.{id-vertex_at, vertex_at-id}
 use Rattle.std.proofs.lemmas.Nat.{div-mul-add}
-use Rattle.lattice_counts.specs.Counts.{row_len, even_len, odd_len, below_layer, before_in_layer, vertex_in_layer, AreSmall, LayersCount, LayersCountVertices, PlaceInLayer, StandsInLayer}
+use Rattle.lattice_counts.specs.Counts.{row_len, even_len, odd_len, below_layer, before_in_layer, vertex_in_layer, AreSmall, LayersCountVertices, PlaceInLayer, StandsInLayer}
 use Rattle.lattice_counts.proofs.Ranges.{get_or-flat_map_range, length-flat_map_range, count_none, count_all_true, count_all_false}
 use Rattle.lattice_counts.proofs.Sizes.{nx_small, ny_small, nz_small, even_small, in_all}
 

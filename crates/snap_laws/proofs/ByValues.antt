@@ -1,6 +1,6 @@
 -- The state of a vertex by the values around it: the near cuts of the definition are those by values, with keys in place of ranks.
-use Rattle.std.proofs.Common.{◌≡◌, ℕ, zero, suc, ◌+◌, ◌-◌, ◌<◌, ◌≤◌, arith, refl, sym, ◌∙◌, ap, subst, Bool, true, false, ◌&&◌, ◌||◌, nat_lt, nat_le, nat_eq, List, [], ◌∷◌, map, Option, Some, None, ℤ, pos, negsuc}
-use Rattle.std.specs.Prelude.{if◌then◌else◌, fold, filter_map, option_and_then, option_map, cond}
+use Rattle.std.proofs.Common.{◌≡◌, ℕ, zero, suc, ◌+◌, ◌-◌, ◌≤◌, arith, refl, sym, ◌∙◌, ap, subst, Bool, true, false, ◌&&◌, ◌||◌, nat_lt, nat_le, nat_eq, List, [], ◌∷◌, map, Option, Some, None, ℤ, pos, negsuc}
+use Rattle.std.specs.Prelude.{if◌then◌else◌, fold, filter_map, option_and_then, option_map}
 use Rattle.std.specs.Option.{option_map_or}
 use Rattle.std.specs.List.{range_with_len, cons_option, AllByRecursion}
 use Rattle.definitions.specs.declared.Vertex.{Vertex}
@@ -10,9 +10,9 @@ use Rattle.definitions.specs.declared.Sign.TheVariants.{Minus, Zero, Plus}
 use Rattle.definitions.specs.Lists.{least_by, lesser}
 use Rattle.definitions.specs.Lattice.{InDomain, neighbour, key, is_long}
 use Rattle.definitions.specs.Values.{Field, value, sign_of}
-use Rattle.definitions.specs.Cuts.{scale, cut_number, cut_between, are_opposite}
+use Rattle.definitions.specs.Cuts.{scale, cut_number}
 use Rattle.definitions.specs.States.{Shares, is_up, direction_of, near_at, near_up, near_down, near_on, near_cuts, is_nearer, snapped, share, square_of, state_of}
-use Rattle.snap_laws.specs.Around.{around, rank, number_of_cut, distance_of_cut, near_here, nears_here, state_here, value_on}
+use Rattle.snap_laws.specs.Around.{around, rank, number_of_cut, distance_of_cut, near_here, nears_here, state_here}
 use Rattle.snap_laws.specs.Laws.{StatesByValues}
 use Rattle.snap_laws.proofs.Ranks.{key_of, IsEdge, keys_by_rank}
 

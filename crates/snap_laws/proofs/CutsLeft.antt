@@ -1,16 +1,14 @@
 -- After snapping an edge from Plus to Minus has a cut that is at neither end: a cut at an end has distance 0 from it, which no share is below.
-use Rattle.std.proofs.Common.{◌≡◌, ◌≢◌, ℕ, zero, suc, ◌+◌, ◌-◌, ◌*◌, ◌/◌, ◌<◌, ◌≤◌, ◌⊎◌, inl, inr, arith, refl, sym, ◌∙◌, ap, subst, Bool, true, false, nat_le, nat_eq, List, [], ◌∷◌, Option, Some, None, ℤ, pos, negsuc}
+use Rattle.std.proofs.Common.{◌≡◌, ℕ, zero, suc, ◌+◌, ◌-◌, ◌<◌, ◌≤◌, arith, refl, sym, ◌∙◌, ap, subst, true, false, nat_le, List, [], ◌∷◌, Option, Some, None}
 use Rattle.std.specs.Prelude.{if◌then◌else◌, fold, filter_map, option_and_then, unsigned_abs, IsSomeAnd}
 use Rattle.std.specs.List.{range_with_len}
-use Rattle.std.proofs.Math.Nat.{div-lt_iff_lt-mul}
 use Rattle.std.proofs.lemmas.Bool.Decides.{nat_tests}
 use Rattle.definitions.specs.declared.Vertex.{Vertex}
 use Rattle.definitions.specs.declared.Near.{Near}
 use Rattle.definitions.specs.declared.Sign.{Sign}
 use Rattle.definitions.specs.declared.Sign.TheVariants.{Minus, Zero, Plus}
-use Rattle.definitions.specs.declared.State.{State}
 use Rattle.definitions.specs.Lists.{least_by, lesser}
-use Rattle.definitions.specs.Lattice.{InDomain, neighbour, step, moved, directed, key, is_long}
+use Rattle.definitions.specs.Lattice.{InDomain, neighbour, key, is_long}
 use Rattle.definitions.specs.Values.{Field, value, sign_of}
 use Rattle.definitions.specs.Cuts.{scale, cut_number, cut_between, are_opposite}
 use Rattle.definitions.specs.States.{Shares, is_up, direction_of, near_at, near_up, near_down, near_on, near_cuts, is_nearer, snapped, share, square_of, state_of, sign_of_state}

@@ -1,5 +1,5 @@
 -- Snapping by the values around a vertex alone: no ids, and no neighbours but their values.
-use Rattle.std.specs.Prelude.{ℕ, ◌+◌, ◌-◌, ◌≤◌, Bool, List, filter_map, ℤ, pos, Option, option_and_then, slice_index_or, if◌then◌else◌}
+use Rattle.std.specs.Prelude.{ℕ, ◌+◌, ◌-◌, ◌≤◌, List, filter_map, ℤ, pos, Option, option_and_then, slice_index_or, if◌then◌else◌}
 use Rattle.std.specs.Option.{option_map_or}
 use Rattle.std.specs.List.{range_with_len}
 use Rattle.definitions.specs.declared.Vertex.{Vertex}

@@ -1,4 +1,4 @@
-use Rattle.std.proofs.Common.{◌<◌, ◌^◌, ap, ◌∙◌, pos, rules}
+use Rattle.std.proofs.Common.{◌<◌, ◌^◌, ap, ◌∙◌, rules}
 use Rattle.std.specs.Prelude.{◌+ℤ◌, ◌*ℤ◌}
 use Rattle.definitions.specs.Lattice.{step}
 use Rattle.definitions.specs.Places.{lattice_place}

@@ -1,5 +1,5 @@
 use Rattle.std.proofs.Common.{◌≤◌, ◌^◌, sym, subst}
-use Rattle.std.specs.Prelude.{◌+ℤ◌, ◌*ℤ◌, unsigned_abs}
+use Rattle.std.specs.Prelude.{unsigned_abs}
 use Rattle.bcc_lattice.proofs.Steps.{moved_read, moved_small}
 use Rattle.bcc_lattice.proofs.places.moved.Goals as goal
 

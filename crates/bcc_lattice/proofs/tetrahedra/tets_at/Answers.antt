@@ -1,5 +1,5 @@
-use Rattle.std.proofs.Common.{refl, ◌≡◌, ◌∷◌, []}
-use Rattle.bcc_lattice.proofs.ListedTets.{AreTetsFrom, Later, pushed_are_tets}
+use Rattle.std.proofs.Common.{refl}
+use Rattle.bcc_lattice.proofs.ListedTets.{AreTetsFrom, pushed_are_tets}
 use Rattle.bcc_lattice.specs.declared.tetrahedra.Numbered.{Numbered}
 use Rattle.bcc_lattice.specs.TetLists.{tets_of, IsNumbered}
 use Rattle.bcc_lattice.proofs.tetrahedra.tets_at.Goals as goal

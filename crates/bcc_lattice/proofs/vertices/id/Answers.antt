@@ -1,5 +1,4 @@
-use Rattle.std.proofs.Common.{◌+◌, ◌*◌, ◌/◌, ◌%◌, ◌-◌, ◌≡◌, ◌<◌, arith, length, subst, ℕ}
-use Rattle.definitions.specs.Lattice.{vertices, id}
+use Rattle.std.proofs.Common.{arith}
 use Rattle.lattice_counts.proofs.Ranks.{rank, id_within}
 use Rattle.bcc_lattice.proofs.vertices.id.Goals as goal
 

@@ -1,4 +1,4 @@
-use Rattle.std.proofs.Common.{◌≡◌, ◌+◌, arith, ap, sym, ◌∙◌, ℕ}
+use Rattle.std.proofs.Common.{◌≡◌, ◌+◌, sym, ◌∙◌, ℕ}
 use Rattle.lattice_counts.specs.Counts.{below_layer, before_in_layer}
 use Rattle.lattice_counts.proofs.Ranks.{vertex_by_place}
 use Rattle.definitions.specs.declared.Dims.{Dims}
