@@ -14,7 +14,9 @@ use std::alloc::Global;
 use std::io;
 
 const SIZE: u32 = 128;
+
 const SAMPLES: u32 = 2097152;
+
 const ROUNDS: u32 = 8;
 
 /// The square of a sample's distance from the middle of an axis, in half steps.
@@ -22,7 +24,11 @@ fn square(i: u32) -> u32
     requires { i < 128 }
     ensures { result ≤ 16129 }
 {
-    let d = if 2 * i >= 127 { 2 * i - 127 } else { 127 - 2 * i };
+    let d = if 2 * i >= 127 {
+        2 * i - 127
+    } else {
+        127 - 2 * i
+    };
     d * d
 }
 
@@ -42,8 +48,13 @@ fn samples(alloc: Global) -> Result<Vec<i64>, NoMemory>
     let mut samples: Vec<i64> = Vec::new(alloc);
     let mut seed: u64 = 7;
     for index in 0..SAMPLES {
-        seed = seed.wrapping_mul(6364136223846793005).wrapping_add(1442695040888963407);
-        if samples.push(sample(index, (seed / 1152921504606846976) as u32)).is_err() {
+        seed = seed
+            .wrapping_mul(6364136223846793005)
+            .wrapping_add(1442695040888963407);
+        if samples
+            .push(sample(index, (seed / 1152921504606846976) as u32))
+            .is_err()
+        {
             return Err(NoMemory);
         }
     }

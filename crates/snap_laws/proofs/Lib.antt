@@ -2,3 +2,4 @@ pub mod Ranks
 pub mod ByValues
 pub mod CutsLeft
 pub mod StatesAre
+pub mod Alike

@@ -1,4 +1,5 @@
 pub mod Codes
 pub mod Divisions
 pub mod Places
+pub mod OneSign
 pub mod Values

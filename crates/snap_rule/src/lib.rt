@@ -4,6 +4,7 @@
 
 mod layers;
 mod near;
+mod runs;
 mod shares;
 mod state;
 mod states;
