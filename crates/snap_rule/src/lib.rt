@@ -15,3 +15,6 @@ pub use layers::layer_states;
 pub use shares::Shares;
 pub use states::{States, all_states};
 pub use vertex::vertex_state;
+
+#[cfg(test)]
+mod tests;
