@@ -4,7 +4,6 @@ ghost use Rattle.definitions.specs.Lattice.{vertices};
 
 use crate::{Shares, States, all_states, vertex_state};
 use bcc_lattice::{code, in_domain, vertex_count};
-use definitions::State;
 use samples::{Field, Level};
 use st_base::{Dims, Kind, Tally, Vertex, Volume};
 use std::alloc::Global;
@@ -39,8 +38,8 @@ fn field(alloc: Global, dims: Dims, samples: &[i64]) -> Option<Field>
     Some(field)
 }
 
-// The state of a vertex by itself, where it is the one that it has among the states of all.
-fn state(alloc: Global, field: &Field, shares: Shares, v: Vertex) -> Option<State>
+// The code of the state of a vertex by itself, where it is the one that it has among the states of all.
+fn word(alloc: Global, field: &Field, shares: Shares, v: Vertex) -> Option<u64>
     requires { length (vertices field.now.dims) < 2 ^ 32 }
 {
     let mut ledger = Tally::new();
@@ -50,7 +49,7 @@ fn state(alloc: Global, field: &Field, shares: Shares, v: Vertex) -> Option<Stat
     }
     let state = vertex_state(field, shares, v, &mut ledger);
     if states.state(v) == state {
-        Some(state)
+        Some(code(state))
     } else {
         None
     }
@@ -61,7 +60,7 @@ fn states_of_small_images(rt: HostRuntime) {
     let alloc = rt.alloc();
     let halves = [2, 2, 2, 2, -2, -2, -2, -2];
     let far = [1, -20000];
-    for (nx, ny, nz, samples, (long, short), (h, y, x), word) in [
+    for (nx, ny, nz, samples, (long, short), (h, y, x), expected) in [
         (2, 2, 2, halves.as_slice(), (1023, 1687), (3, 3, 3), 196662),
         (2, 1, 1, [1, 1].as_slice(), (1023, 1687), (1, 1, 3), 87382),
         (2, 1, 1, far.as_slice(), (0, 0), (2, 2, 2), 262194),
@@ -74,8 +73,8 @@ fn states_of_small_images(rt: HostRuntime) {
         ) else {
             panic!(rt; "no field");
         };
-        let found = state(alloc, &field, shares, Vertex { h, y, x });
-        assert_eq!(rt; found.map(code), Some(word));
+        let found = word(alloc, &field, shares, Vertex { h, y, x });
+        assert_eq!(rt; found, Some(expected));
     }
 }
 
