@@ -1,3 +1,4 @@
+pub mod Alike
 pub mod Codes
 pub mod Near
 pub use Rattle.definitions.specs.States

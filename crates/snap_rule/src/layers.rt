@@ -1,12 +1,15 @@
-ghost use Rattle.std.specs.Prelude.{◌≡◌, ℕ, ◌+◌, ◌*◌, ◌%◌, ◌^◌, ◌<◌, ◌≤◌, length, map, slice_index};
-ghost use Rattle.definitions.specs.Lattice.{IsDims, layer, layers, vertex, vertices};
+ghost use Rattle.std.specs.Prelude.{◌≡◌, ℕ, ◌+◌, ◌-◌, ◌*◌, ◌/◌, ◌%◌, ◌^◌, ◌<◌, ◌≤◌, None, length, map, slice_index};
+ghost use Rattle.definitions.specs.Lattice.{InDomain, IsDims, layer, layers, vertex, vertices};
 ghost use Rattle.definitions.specs.Layout.{layer_len};
-ghost use Rattle.definitions.specs.States.{code, state_of};
+ghost use Rattle.definitions.specs.States.{code, snapped, state_of};
 ghost use Rattle.lattice_counts.specs.Counts.{row_len, vertex_in_layer};
+ghost use Rattle.snap_rule.specs.Alike.{HasAround};
 
 use crate::Shares;
+use crate::columns::{Run, first_run, lines_around, with_next};
 use crate::vertex::state_at;
 use bcc_lattice::code;
+use definitions::Sign;
 use samples::Field;
 use st_base::{Ledger, Vertex};
 
@@ -31,6 +34,31 @@ pub fn layer_size(field: &Field, h: u32) -> LayerSize
     }
 }
 
+/// The code of a vertex of a sign that is not moved.
+fn sign_code(sign: Sign) -> u64
+    ensures { result ≡ code (snapped sign None) }
+{
+    match sign {
+        Sign::Minus => 1,
+        Sign::Zero => 2,
+        Sign::Plus => 3,
+    }
+}
+
+/// The code of a vertex: at once where the run holds all corners around it.
+#[inline]
+fn code_at(field: &Field, shares: Shares, run: Run, v: Vertex) -> u64
+    requires domain { InDomain field.now.dims v }
+    requires run { run.start ≤ v.x / 2 - 1 → HasAround field.now v run.sign }
+    ensures { result ≡ code (state_of field.now shares v) }
+{
+    if run.start <= (v.x / 2).saturating_sub(1) {
+        sign_code(run.sign)
+    } else {
+        code(state_at(field, shares, v))
+    }
+}
+
 /// Writes the codes of row `j` of a layer from a place on.
 #[tactic(auto, using(lattice_counts::proofs::Sizes::nx_small, lattice_counts::proofs::Sizes::ny_small))]
 fn write_row(field: &Field, shares: Shares, h: u32, j: u32, start: usize, out: &mut [u64])
@@ -41,14 +69,18 @@ fn write_row(field: &Field, shares: Shares, h: u32, j: u32, start: usize, out: &
     ensures below { (k : ℕ) → k < start → slice_index out.new k ≡ slice_index out.old k }
 {
     let size = layer_size(field, h);
+    let lines = lines_around(field, h, j);
     let y = j * 2 + h % 2;
+    let ahead = 1 + h % 2;
+    let mut run = first_run(field, lines, ahead);
     for i in 0..size.row {
         let v = Vertex {
             h,
             y,
             x: i * 2 + h % 2,
         };
-        out[start + i as usize] = code(state_at(field, shares, v));
+        run = with_next(field, lines, run, i + ahead);
+        out[start + i as usize] = code_at(field, shares, run, v);
     }
 }
 

@@ -2,6 +2,7 @@
 //! vertices after it.
 #![tactic(auto)]
 
+mod columns;
 mod layers;
 mod near;
 mod shares;
