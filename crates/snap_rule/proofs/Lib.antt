@@ -3,3 +3,4 @@ pub mod Codes
 pub mod Divisions
 pub mod Places
 pub mod Values
+pub mod ValuesAround
