@@ -2,4 +2,3 @@ pub mod Ranks
 pub mod ByValues
 pub mod CutsLeft
 pub mod StatesAre
-pub mod Alike

@@ -1,5 +1,6 @@
+pub mod Alike
 pub mod Codes
 pub mod Divisions
 pub mod Places
-pub mod OneSign
 pub mod Values
+pub mod ValuesAround

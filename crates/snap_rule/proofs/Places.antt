@@ -58,13 +58,3 @@ all_filled d F xs len known =
     fill_by_all (λ k. F (vertex_at d k)) xs (length (vertices d)) 0 len known
     ∙ map_of_map F (vertex_at d) (range_with_len 0 (length (vertices d)))
     ∙ ap (map F) (sym (vertices_listed d))
-
--- one more element of a run that begins behind others
-pub run_more : (f : ℕ → ℕ) (xs : List ℕ) (s a n z : ℕ) → s + n < length xs → ((i : ℕ) → a ≤ i → i < n → get_or xs (s + i) 0 ≡ f i) → z ≡ f n → (i : ℕ) → a ≤ i → i < n + 1 → get_or (set xs (s + n) z) (s + i) 0 ≡ f i
-run_more f xs s a n z lt known e i low h =
-    below_more (λ i. a ≤ i → get_or (set xs (s + n) z) (s + i) 0 ≡ f i) n
-    (λ i h low. let ne : s + i ≢ s + n = omega arith in get_or-set_other xs (s + n) (s + i) z 0 ne ∙ known i low h)
-    (λ low. get_or-set_same xs (s + n) z 0 lt ∙ e) i h low
-
-pub run_above : (xs ys : List ℕ) (s a n z : ℕ) → a ≤ n → ((k : ℕ) → k < s + a → get_or xs k 0 ≡ get_or ys k 0) → (k : ℕ) → k < s + a → get_or (set xs (s + n) z) k 0 ≡ get_or ys k 0
-run_above xs ys s a n z le same k h = let ne : k ≢ s + n = omega arith in get_or-set_other xs (s + n) k z 0 ne ∙ same k h

@@ -1,6 +1,6 @@
+pub mod Alike
 pub mod Codes
 pub mod Near
-pub mod Runs
 pub use Rattle.definitions.specs.States
 pub use Rattle.snap_laws.specs.Around
 pub use Rattle.snap_laws.specs.Laws

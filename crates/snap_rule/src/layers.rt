@@ -1,13 +1,15 @@
-ghost use Rattle.std.specs.Prelude.{◌≡◌, ℕ, ◌+◌, ◌*◌, ◌%◌, ◌^◌, ◌<◌, ◌≤◌, length, map, slice_index, if◌then◌else◌};
-ghost use Rattle.definitions.specs.Lattice.{IsDims, layer, layers, vertex, vertices};
+ghost use Rattle.std.specs.Prelude.{◌≡◌, ℕ, ◌+◌, ◌-◌, ◌*◌, ◌/◌, ◌%◌, ◌^◌, ◌<◌, ◌≤◌, None, length, map, slice_index};
+ghost use Rattle.definitions.specs.Lattice.{InDomain, IsDims, layer, layers, vertex, vertices};
 ghost use Rattle.definitions.specs.Layout.{layer_len};
-ghost use Rattle.definitions.specs.States.{code, state_of};
+ghost use Rattle.definitions.specs.States.{code, snapped, state_of};
 ghost use Rattle.lattice_counts.specs.Counts.{row_len, vertex_in_layer};
+ghost use Rattle.snap_rule.specs.Alike.{HasAround};
 
 use crate::Shares;
-use crate::runs::{Span, run_sign};
+use crate::columns::{Run, first_run, lines_around, with_next};
 use crate::vertex::state_at;
 use bcc_lattice::code;
+use definitions::Sign;
 use samples::Field;
 use st_base::{Ledger, Vertex};
 
@@ -32,62 +34,33 @@ pub fn layer_size(field: &Field, h: u32) -> LayerSize
     }
 }
 
-/// The code of Plus, or of Minus.
-fn word_of_sign(plus: bool) -> u64
-    ensures { result ≡ (if plus then 3 else 1) }
+/// The code of a vertex of a sign that is not moved.
+fn sign_code(sign: Sign) -> u64
+    ensures { result ≡ code (snapped sign None) }
 {
-    if plus { 3 } else { 1 }
-}
-
-/// Writes one word for each vertex of a run.
-fn fill(word: u64, x: Span, start: usize, out: &mut [u64])
-    requires { start + x.to ≤ length out.old }
-    ensures run { (i : ℕ) → x.from ≤ i → i < x.to → slice_index out.new (start + i) ≡ word }
-    ensures below { (k : ℕ) → k < start + x.from → slice_index out.new k ≡ slice_index out.old k }
-{
-    for i in x.from..x.to {
-        out[start + i as usize] = word;
+    match sign {
+        Sign::Minus => 1,
+        Sign::Zero => 2,
+        Sign::Plus => 3,
     }
 }
 
-/// Writes the codes of a run of vertices of row `j` of a layer, each made by itself.
-fn write_each(field: &Field, shares: Shares, h: u32, j: u32, x: Span, start: usize, out: &mut [u64])
-    requires layer { h < layers field.now.dims }
-    requires row { j < row_len field.now.dims.ny h }
-    requires run { x.to ≤ row_len field.now.dims.nx h }
-    requires room { start + row_len field.now.dims.nx h ≤ length out.old }
-    ensures run { (i : ℕ) → x.from ≤ i → i < x.to → slice_index out.new (start + i) ≡ code (state_of field.now shares (vertex h (j * 2 + h % 2) (i * 2 + h % 2))) }
-    ensures below { (k : ℕ) → k < start + x.from → slice_index out.new k ≡ slice_index out.old k }
+/// The code of a vertex: at once where the run holds all corners around it.
+#[inline]
+fn code_at(field: &Field, shares: Shares, run: Run, v: Vertex) -> u64
+    requires domain { InDomain field.now.dims v }
+    requires run { run.start ≤ v.x / 2 - 1 → HasAround field.now v run.sign }
+    ensures { result ≡ code (state_of field.now shares v) }
 {
-    let _size = layer_size(field, h);
-    let odd = h % 2;
-    for i in x.from..x.to {
-        let v = Vertex {
-            h,
-            y: j * 2 + odd,
-            x: i * 2 + odd,
-        };
-        out[start + i as usize] = code(state_at(field, shares, v));
+    if run.start <= (v.x / 2).saturating_sub(1) {
+        sign_code(run.sign)
+    } else {
+        code(state_at(field, shares, v))
     }
 }
 
-/// Writes the codes of a run of vertices of row `j` of a layer: all at once where there is one sign all
-/// around them.
-fn write_run(field: &Field, shares: Shares, h: u32, j: u32, x: Span, start: usize, out: &mut [u64])
-    requires layer { h < layers field.now.dims }
-    requires row { j < row_len field.now.dims.ny h }
-    requires run { x.to ≤ row_len field.now.dims.nx h }
-    requires room { start + row_len field.now.dims.nx h ≤ length out.old }
-    ensures run { (i : ℕ) → x.from ≤ i → i < x.to → slice_index out.new (start + i) ≡ code (state_of field.now shares (vertex h (j * 2 + h % 2) (i * 2 + h % 2))) }
-    ensures below { (k : ℕ) → k < start + x.from → slice_index out.new k ≡ slice_index out.old k }
-{
-    match run_sign(field, h, j, x) {
-        Some(plus) => fill(word_of_sign(plus), x, start, out),
-        None => write_each(field, shares, h, j, x, start, out),
-    }
-}
-
-/// Writes the codes of row `j` of a layer from a place on, eight vertices at a time.
+/// Writes the codes of row `j` of a layer from a place on.
+#[tactic(auto, using(lattice_counts::proofs::Sizes::nx_small, lattice_counts::proofs::Sizes::ny_small))]
 fn write_row(field: &Field, shares: Shares, h: u32, j: u32, start: usize, out: &mut [u64])
     requires layer { h < layers field.now.dims }
     requires row { j < row_len field.now.dims.ny h }
@@ -95,13 +68,19 @@ fn write_row(field: &Field, shares: Shares, h: u32, j: u32, start: usize, out: &
     ensures row { (i : ℕ) → i < row_len field.now.dims.nx h → slice_index out.new (start + i) ≡ code (state_of field.now shares (vertex h (j * 2 + h % 2) (i * 2 + h % 2))) }
     ensures below { (k : ℕ) → k < start → slice_index out.new k ≡ slice_index out.old k }
 {
-    let row = layer_size(field, h).row;
-    for n in 0..row.div_ceil(8) {
-        let run = Span {
-            from: 8 * n,
-            to: row.min(8 * n + 8),
+    let size = layer_size(field, h);
+    let lines = lines_around(field, h, j);
+    let y = j * 2 + h % 2;
+    let ahead = 1 + h % 2;
+    let mut run = first_run(field, lines, ahead);
+    for i in 0..size.row {
+        let v = Vertex {
+            h,
+            y,
+            x: i * 2 + h % 2,
         };
-        write_run(field, shares, h, j, run, start, out);
+        run = with_next(field, lines, run, i + ahead);
+        out[start + i as usize] = code_at(field, shares, run, v);
     }
 }
 

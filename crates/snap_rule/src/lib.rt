@@ -2,9 +2,9 @@
 //! vertices after it.
 #![tactic(auto)]
 
+mod columns;
 mod layers;
 mod near;
-mod runs;
 mod shares;
 mod state;
 mod states;

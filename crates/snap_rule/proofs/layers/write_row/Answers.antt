@@ -1,14 +1,26 @@
-use Rattle.std.proofs.Common.{◌≡◌, ℕ, ◌+◌, ◌*◌, ◌%◌, ◌<◌, ◌≤◌, ◌⊎◌, inl, inr, ◌∙◌, arith}
+use Rattle.std.proofs.Common.{◌≡◌, ℕ, ◌+◌, ◌*◌, ◌/◌, ◌%◌, ◌<◌, ◌≤◌, length, arith, subst}
+use Rattle.definitions.specs.Lattice.{vertex}
+use Rattle.definitions.specs.States.{code, state_of}
+use Rattle.snap_rule.specs.Alike.{AreColumns}
+use Rattle.snap_rule.proofs.Alike.{has_around}
+use Rattle.snap_rule.proofs.Places.{put_more, put_above}
 use Rattle.snap_rule.proofs.layers.write_row.Goals as goal
 
-pub loop-n-preserved : goal.loop-n-preserved
-loop-n-preserved c = (
-  (λ i h r. elim (where_is i (8 * c.loop-n.n)) [
-    | inl lt ↦ c.write_run.ensures.below (c.args.start + i) (omega arith) ∙ c.loop-n.invariant.0 i lt r
-    | inr ge ↦ c.write_run.ensures.run i ge (let m = c.min.ensures in let w = c.layer_size-row.ensures.row in omega arith)
-  ]),
-  (λ k h. c.write_run.ensures.below k (omega arith) ∙ c.loop-n.invariant.1 k h),
-)
-  where
-    where_is : (i n : ℕ) → (i < n) ⊎ (n ≤ i)
-    where_is i n = grind arith
+reaches : (i h ahead : ℕ) → ahead ≡ 1 + h % 2 → (i * 2 + h % 2) / 2 + 2 + (i * 2 + h % 2) % 2 ≤ i + ahead + 1
+reaches i h ahead e = omega arith
+
+one_further : (i ahead : ℕ) → i + ahead + 1 ≡ i + 1 + ahead
+one_further i ahead = omega arith
+
+pub code_at-requires-clause-run : goal.code_at-requires-clause-run
+code_at-requires-clause-run c = λ low.
+    has_around c.args.field.now c.lines_around-lines.result c.with_next-run.result.sign c.with_next-run.result.start (c.loop-i.i + (1 + c.args.h % 2) + 1) c.args.h (c.args.j * 2 + c.args.h % 2) (c.loop-i.i * 2 + c.args.h % 2)
+    c.lines_around-lines.ensures.around c.with_next-run.ensures low (reaches c.loop-i.i c.args.h (1 + c.args.h % 2) (omega arith))
+
+pub loop-i-preserved : goal.loop-i-preserved
+loop-i-preserved c =
+    let lt : c.args.start + c.loop-i.i < length c.loop-i.out = let t = c.loop-i-test.true in let w = c.layer_size-size.ensures.row in omega arith in (
+      subst (λ n. AreColumns c.args.field.now c.lines_around-lines.result c.with_next-run.result.sign c.with_next-run.result.start n) (one_further c.loop-i.i (1 + c.args.h % 2)) c.with_next-run.ensures,
+      put_more (λ i. code (state_of c.args.field.now c.args.shares (vertex c.args.h (c.args.j * 2 + c.args.h % 2) (i * 2 + c.args.h % 2)))) c.loop-i.out c.args.start c.loop-i.i c.code_at.result lt c.loop-i.invariant.1 c.code_at.ensures,
+      put_above c.loop-i.out c.args.out.now c.args.start c.loop-i.i c.code_at.result c.loop-i.invariant.2,
+    )

@@ -1,7 +1,7 @@
 use Rattle.std.proofs.Common.{◌≡◌, ◌+◌, ◌<◌, ◌≤◌, ◌^◌, length, get_or, pos, ℕ}
 use Rattle.std.specs.Prelude.{unsigned_abs}
 use Rattle.snap_laws.specs.Around.{around}
-use Rattle.snap_rule.proofs.values_around.around.Given as goal
+use Rattle.snap_rule.proofs.values_around.around_any.Given as goal
 
 abbrev pub invariant-loop-n : goal.invariant-loop-n
 invariant-loop-n l =

@@ -1,10 +1,10 @@
-use Rattle.std.proofs.Common.{◌≡◌, ◌≢◌, ℕ, ◌+◌, ◌<◌, ◌≤◌, ◌^◌, arith, refl, sym, ◌∙◌, ap, subst, length, get_or, pos, ℤ, zero, suc, List, [], ◌∷◌, below_more, get_or-set_other, get_or-set_same, w64, to_z, of_z}
+use Rattle.std.proofs.Common.{◌≡◌, ◌≢◌, ℕ, ◌+◌, ◌<◌, ◌≤◌, ◌^◌, arith, refl, sym, ◌∙◌, subst, length, get_or, pos, ℤ, zero, suc, List, [], ◌∷◌, below_more, get_or-set_other, get_or-set_same, w64, to_z, of_z}
 use Rattle.std.specs.Prelude.{unsigned_abs}
 use Rattle.std.proofs.Math.ListN.{set, length-set}
 use Rattle.std.proofs.lemmas.List.FromFn.{fill_by_all}
 use Rattle.snap_laws.specs.Around.{around}
 use Rattle.snap_rule.proofs.Values.{read}
-use Rattle.snap_rule.proofs.values_around.around.Goals as goal
+use Rattle.snap_rule.proofs.values_around.around_any.Goals as goal
 
 pub loop-n-init : goal.loop-n-init
 loop-n-init c = (refl, (λ k h. absurd (omega arith)), (λ k h. absurd (omega arith)))
