@@ -1,12 +1,12 @@
 -- Values in 64 bits, and what follows where none has the other sign.
-use Rattle.std.proofs.Common.{◌≡◌, ℕ, ◌≤◌, ◌^◌, ◌+◌, ◌-◌, suc, zero, arith, refl, sym, ◌∙◌, ap, Bool, true, false, ◌||◌, List, [], ◌∷◌, get_or, length, Option, Some, None, ℤ, pos, negsuc, w64, to_z, of_z}
+use Rattle.std.proofs.Common.{◌≡◌, ℕ, ◌≤◌, ◌^◌, ◌-◌, suc, zero, arith, refl, sym, ◌∙◌, ap, Bool, true, false, ◌||◌, List, [], ◌∷◌, get_or, Option, Some, None, ℤ, pos, negsuc, w64, to_z, of_z}
 use Rattle.std.specs.Prelude.{unsigned_abs, filter_map, fold, option_and_then, if◌then◌else◌}
 use Rattle.std.specs.List.{list_any, range_with_len, cons_option}
 use Rattle.std.proofs.lemmas.Int.{to_z-of_z, fits_signed_from_abs}
 use Rattle.definitions.specs.declared.Near.{Near}
 use Rattle.definitions.specs.declared.Sign.{Sign}
 use Rattle.definitions.specs.declared.Sign.TheVariants.{Minus, Zero, Plus}
-use Rattle.definitions.specs.Cuts.{are_opposite, cut_number, scale, cut_between}
+use Rattle.definitions.specs.Cuts.{are_opposite, cut_number, cut_between}
 use Rattle.definitions.specs.Lists.{least_by, lesser}
 use Rattle.definitions.specs.States.{Shares, is_nearer, is_up, near_at, snapped}
 use Rattle.definitions.specs.Values.{sign_of}

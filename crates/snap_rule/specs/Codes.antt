@@ -1,5 +1,5 @@
 -- Words that are codes of states, and their states.
-use Rattle.std.specs.Prelude.{◌≡◌, ℕ, ◌+◌, ◌*◌, ◌/◌, ◌%◌, Bool, true, ◌&&◌, ◌||◌, nat_le, ◌==◌, List, map, All, IsTrue, length, if◌then◌else◌}
+use Rattle.std.specs.Prelude.{◌≡◌, ℕ, ◌/◌, ◌%◌, Bool, ◌&&◌, ◌||◌, nat_le, ◌==◌, List, All, IsTrue, length, if◌then◌else◌}
 use Rattle.definitions.specs.declared.Dims.{Dims}
 use Rattle.definitions.specs.declared.State.{State}
 use Rattle.definitions.specs.declared.State.TheVariants as state

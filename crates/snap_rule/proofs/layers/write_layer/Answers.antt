@@ -1,5 +1,4 @@
-use Rattle.std.proofs.Common.{◌≡◌, ℕ, ◌+◌, ◌*◌, ◌<◌, ◌≤◌, ◌^◌, length, get_or, ap, sym, ◌∙◌, arith, refl, rules, subst}
-use Rattle.definitions.specs.Layout.{layer_len}
+use Rattle.std.proofs.Common.{◌≡◌, ℕ, ◌+◌, ◌*◌, ◌<◌, ◌≤◌, length, ap, sym, ◌∙◌, arith, refl, rules, subst}
 use Rattle.definitions.specs.States.{code, state_of}
 use Rattle.lattice_counts.specs.Counts.{row_len, vertex_in_layer}
 use Rattle.lattice_counts.proofs.Ranks.{layer_length, vertex_of_row}

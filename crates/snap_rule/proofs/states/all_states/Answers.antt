@@ -1,4 +1,4 @@
-use Rattle.std.proofs.Common.{sym, ◌∙◌, ap, subst, map}
+use Rattle.std.proofs.Common.{sym, ◌∙◌, ap, subst}
 use Rattle.snap_rule.specs.Codes.{AreCodes}
 use Rattle.snap_rule.proofs.Codes.{are_codes, states_decoded}
 use Rattle.snap_rule.proofs.states.all_states.Goals as goal
