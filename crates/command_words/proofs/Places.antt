@@ -1,130 +1,111 @@
 -- The commands of the grammar, and the places at which words are bad.
-use Rattle.std.proofs.Common.{◌≡◌, inl, inr, ℕ, ℤ, pos, ◌+◌, ◌<◌, ◌≤◌, List, [], ◌∷◌, ◌++◌, length, take, drop, append_assoc, codes, Bool, true, false, refl, ap, sym, ◌∙◌, subst, arith, slice_index_or}
-use Rattle.std.specs.Prelude.{count_by, cond, IsTrue, nat_lt}
+use Rattle.std.proofs.Common.{◌≡◌, inl, inr, ℕ, ℤ, pos, ◌+◌, ◌<◌, ◌≤◌, suc, List, [], ◌∷◌, ◌++◌, length, take, drop, append_assoc, codes, Bool, true, false, Option, Some, None, refl, ap, sym, ◌∙◌, subst, arith, slice_index_or}
+use Rattle.std.specs.Prelude.{IsTrue, nat_lt, option_map, unwrap_or, unsigned_abs, is_some, if◌then◌else◌}
 use Rattle.std.specs.Str.{bytes_eq}
+use Rattle.std.proofs.Math.Seq.{take-suc, take-length}
 use Rattle.std.proofs.lemmas.Bool.{cases_lt}
-use Rattle.std.proofs.lemmas.List.{take-take, take-append-drop}
-use Rattle.command_words.proofs.Decimals.{level_once}
 use Rattle.std.proofs.lemmas.Bool.Decides.{nat_tests}
-use Rattle.std.proofs.lemmas.Fmt.{decimal_digit}
-use Rattle.std.proofs.lemmas.List.Sums.{sum_by-cons}
+use Rattle.std.proofs.lemmas.List.{take-take, take-append-drop}
 use Rattle.std.proofs.lemmas.Slice.Eq.{bytes_eq-Decides}
 use Rattle.std.specs.List.{AllZip, list_all}
-use Rattle.formats.specs.Words.{Name, Level, Setting, ReadsSetting, Verb, Count, IsComplete, Reads, Command, CountSigns, Begins, IsBadPlace, IsLevel, IsValue, is_of, command_of, same_name, name_text, verb_text, file_count, value_or}
-use Rattle.command_words.specs.Commands.{IsLevelWord, is_word, is_name}
+use Rattle.formats.specs.Words.{Level, Below, Step, Setting, ReadsSetting, Verb, Count, IsComplete, Reads, Command, CountSigns, Begins, IsBadPlace, command_of, is_set, number_or, value_or, verb_text, file_count, required}
+use Rattle.command_words.specs.declared.settings.Seen.{Seen}
+use Rattle.command_words.specs.Commands.{is_word, is_name}
+use Rattle.command_words.specs.Settings.{value_of, IsSettled, IsTaken, IsStuck, IsStop}
+use Rattle.command_words.proofs.Names.{settings_once}
+use Rattle.command_words.proofs.Settled.{set_is, settled_none, filled, stuck_none, said_in, left_of}
 
 -- the shape of a list that reads
 pub record IsCount (words : List (List ℕ)) (c : Command) : Type 0 where
   pub file : List ℕ
-  pub word : List ℕ
-  pub twice : ℤ
-  pub words_are : words ≡ codes "count" ∷ file ∷ word ∷ []
+  pub named : List (List ℕ)
+  pub settings : List Setting
+  pub words_are : words ≡ codes "count" ∷ file ∷ named
   pub file_some : 0 < length file
-  pub level : IsLevelWord word twice
-  pub command_is : c ≡ CountSigns 1 twice
+  pub settled : IsSettled Count named settings
+  pub level : is_set settings Level ≡ true
+  pub command_is : c ≡ command_of Count settings
 
-every_name : (n : Name) → same_name Level n ≡ true
-every_name Level = refl
-
-level_counted : (s : Setting) (ss : List Setting) → count_by (is_of Level) (s ∷ ss) ≡ 1 + count_by (is_of Level) ss
-level_counted s ss = sum_by-cons (λ x. cond (is_of Level x) 1 0) s ss ∙ ap (λ (b : Bool). cond b 1 0 + count_by (is_of Level) ss) (every_name s.name)
-
--- one setting and no other
-one_setting : (settings : List Setting) → IsComplete Count settings → (s : Setting) × (settings ≡ s ∷ [])
-one_setting [] complete = let t : false ≡ true = complete.there in cc
-one_setting (s ∷ []) complete = (s, refl)
-one_setting (s ∷ t ∷ rest) complete = absurd (omega (arith, complete.once Level, level_counted s (t ∷ rest), level_counted t rest))
+abbrev are_files : List (List ℕ) → Type 0
+are_files files = IsTrue (list_all (λ f. nat_lt 0 (length f)) files)
 
 one_file : (files : List (List ℕ)) → length files ≡ 1 → (f : List ℕ) × (files ≡ f ∷ [])
 one_file [] e = absurd (omega arith)
 one_file (f ∷ []) e = (f, refl)
 one_file (f ∷ g ∷ rest) e = absurd (omega arith)
 
-one_named : (named : List (List ℕ)) (s : Setting) → AllZip ReadsSetting named (s ∷ []) → (w : List ℕ) × (named ≡ w ∷ []) × ReadsSetting w s
-one_named [] s zip = absurd zip
-one_named (w ∷ []) s zip = (w, refl, zip.0)
-one_named (w ∷ v ∷ rest) s zip = absurd zip.1
-
-level_named : (w : List ℕ) (n : Name) (text : List ℕ) (value : ℤ) → w ≡ name_text n ++ text → IsValue n text value → IsLevelWord w value
-level_named w Level text value e v = (text, e, v)
-
-value_found : (n : Name) (value : ℤ) → value_or (record { name = n; value = value } ∷ []) Level (pos 0) ≡ value
-value_found Level value = refl
-
-file_is : (f : List ℕ) → IsTrue (list_all (λ f. nat_lt 0 (length f)) (f ∷ [])) → 0 < length f
+file_is : (f : List ℕ) → are_files (f ∷ []) → 0 < length f
 file_is f h = grind (arith, nat_tests, h)
 
+level_there : (ss : List Setting) → IsTrue (list_all (is_set ss) (required Count)) → is_set ss Level ≡ true
+level_there ss h = left_of (is_set ss Level) true h
+
 shaped : (words : List (List ℕ)) (c : Command) (verb : Verb) (files named : List (List ℕ)) (settings : List Setting)
-    → words ≡ verb_text verb ∷ (files ++ named) → length files ≡ file_count verb → IsTrue (list_all (λ f. nat_lt 0 (length f)) files) → AllZip ReadsSetting named settings → IsComplete verb settings → c ≡ command_of verb settings → IsCount words c
+    → words ≡ verb_text verb ∷ (files ++ named) → length files ≡ file_count verb → are_files files → AllZip ReadsSetting named settings → IsComplete verb settings → c ≡ command_of verb settings → IsCount words c
 shaped words c Count files named settings e len some zip complete is =
-    let s = one_setting settings complete in
     let f = one_file files len in
-    let n = one_named named s.0 (subst (λ (ss : List Setting). AllZip ReadsSetting named ss) s.1 zip) in
     record {
       file = f.0;
-      word = n.0;
-      twice = s.0.value;
-      words_are = e ∙ (λ i. codes "count" ∷ (f.1 i ++ n.1 i));
-      file_some = file_is f.0 (subst (λ (fs : List (List ℕ)). IsTrue (list_all (λ f. nat_lt 0 (length f)) fs)) f.1 some);
-      level = level_named n.0 s.0.name n.2.text s.0.value n.2.word_is n.2.value_is;
-      command_is = is ∙ ap (command_of Count) s.1 ∙ ap (CountSigns 1) (value_found s.0.name s.0.value);
+      named = named;
+      settings = settings;
+      words_are = e ∙ (λ i. codes "count" ∷ (f.1 i ++ named));
+      file_some = file_is f.0 (subst (λ (fs : List (List ℕ)). are_files fs) f.1 some);
+      settled = record { named_are = zip; once = complete.once; known = complete.known };
+      level = level_there settings complete.there;
+      command_is = is;
     }
 
 pub count_of : (words : List (List ℕ)) (c : Command) → Reads words c → IsCount words c
 count_of words c r = shaped words c r.verb r.files r.named r.settings r.words_are r.files_len r.files_named r.named_are r.complete r.command_is
 
-once_each : (n : Name) (twice : ℤ) → count_by (is_of n) (record { name = Level; value = twice } ∷ []) ≤ 1
-once_each Level twice = omega (arith, level_counted (record { name = Level; value = twice }) [])
-
-named_file : (f : List ℕ) → 0 < length f → IsTrue (list_all (λ f. nat_lt 0 (length f)) (f ∷ []))
+named_file : (f : List ℕ) → 0 < length f → are_files (f ∷ [])
 named_file f h = grind (arith, nat_tests, h)
 
-pub reads_count : (file word : List ℕ) (twice : ℤ) → 0 < length file → IsLevelWord word twice → Reads (codes "count" ∷ file ∷ word ∷ []) (CountSigns 1 twice)
-reads_count file word twice some level = record {
+reads_whole : (file : List ℕ) (named : List (List ℕ)) (settings : List Setting) → 0 < length file → IsSettled Count named settings → list_all (is_set settings) (required Count) ≡ true → Reads (codes "count" ∷ file ∷ named) (command_of Count settings)
+reads_whole file named settings some settled there = record {
   verb = Count;
   files = file ∷ [];
-  named = word ∷ [];
-  settings = record { name = Level; value = twice } ∷ [];
+  named = named;
+  settings = settings;
   words_are = refl;
   files_len = refl;
   files_named = named_file file some;
-  named_are = (record { text = level.0; word_is = level.1; value_is = level.2 }, tt);
-  complete = record { once = λ n. once_each n twice; known = refl; there = refl };
+  named_are = settled.named_are;
+  complete = record { once = settled.once; known = settled.known; there = there };
   command_is = refl;
 }
 
--- a command that begins so
+-- words with which a command begins
+begins_named : (file : List ℕ) (named : List (List ℕ)) (settings : List Setting) → 0 < length file → IsSettled Count named settings → Begins (codes "count" ∷ file ∷ named)
+begins_named file named settings some settled =
+    let f = filled Count named settings settled in
+    (f.rest, command_of Count f.settings, reads_whole file (named ++ f.rest) f.settings some f.settled f.there)
+
 abbrev a_file : List ℕ
 a_file = 97 ∷ []
 
-a_level : IsLevelWord (codes "level=0") (pos 0)
-a_level = (codes "0", refl, (0, inl ((0, omega arith, inl (sym (decimal_digit 0 (omega arith)), refl)), refl)))
-
-begins_file : (file : List ℕ) → 0 < length file → Begins (codes "count" ∷ file ∷ [])
-begins_file file some = (codes "level=0" ∷ [], CountSigns 1 (pos 0), reads_count file (codes "level=0") (pos 0) some a_level)
+begins_file : Begins (codes "count" ∷ a_file ∷ [])
+begins_file = begins_named a_file [] [] (omega arith) (settled_none Count)
 
 begins_verb : Begins (codes "count" ∷ [])
-begins_verb = (a_file ∷ codes "level=0" ∷ [], CountSigns 1 (pos 0), reads_count a_file (codes "level=0") (pos 0) (omega arith) a_level)
+begins_verb = (a_file ∷ begins_file.0, begins_file.1, begins_file.2)
 
 begins_none : Begins []
-begins_none = (codes "count" ∷ a_file ∷ codes "level=0" ∷ [], CountSigns 1 (pos 0), reads_count a_file (codes "level=0") (pos 0) (omega arith) a_level)
-
-begins_whole : (file word : List ℕ) (twice : ℤ) → 0 < length file → IsLevelWord word twice → Begins (codes "count" ∷ file ∷ word ∷ [])
-begins_whole file word twice some level = ([], CountSigns 1 twice, reads_count file word twice some level)
+begins_none = (codes "count" ∷ begins_verb.0, begins_verb.1, begins_verb.2)
 
 other_text : (w : List ℕ) (text : List ℕ) → bytes_eq w text ≡ false → w ≡ text → ⊥
 other_text w text f e = let t : bytes_eq w text ≡ true = (bytes_eq-Decides w text).1 e in cc
 
--- the words after the first `n` of the shapes below
+-- words that do not begin with the verb
 pub no_verb : (ws : List (List ℕ)) → is_word ws 0 (codes "count") ≡ false → IsBadPlace ws 0
 no_verb [] h = record { unread = λ c r. (let s = count_of [] c r in cc s.words_are); within = omega arith; begins = begins_none; ends = λ lt on. absurd (omega arith) }
 no_verb (w ∷ ws) h =
     let other : bytes_eq w (codes "count") ≡ false = grind (arith, nat_tests, h) in
     record {
-      unread = λ c r. (let s = count_of (w ∷ ws) c r in other_text w (codes "count") other (let e : w ∷ ws ≡ codes "count" ∷ s.file ∷ s.word ∷ [] = s.words_are in cc));
+      unread = λ c r. (let s = count_of (w ∷ ws) c r in other_text w (codes "count") other (let e : w ∷ ws ≡ codes "count" ∷ s.file ∷ s.named = s.words_are in cc));
       within = omega arith;
       begins = begins_none;
-      ends = λ lt on. (let s = count_of (w ∷ on.0) on.1 on.2 in other_text w (codes "count") other (let e : w ∷ on.0 ≡ codes "count" ∷ s.file ∷ s.word ∷ [] = s.words_are in cc));
+      ends = λ lt on. (let s = count_of (w ∷ on.0) on.1 on.2 in other_text w (codes "count") other (let e : w ∷ on.0 ≡ codes "count" ∷ s.file ∷ s.named = s.words_are in cc));
     }
 
 -- a list whose first word is the verb, and perhaps a second that is a name
@@ -139,12 +120,19 @@ name_is w f ws h = grind (arith, nat_tests, h)
 name_is_not : (w f : List ℕ) (ws : List (List ℕ)) → is_name (w ∷ f ∷ ws) 1 ≡ false → length f ≡ 0
 name_is_not w f ws h = grind (arith, nat_tests, h)
 
+empty_name : (w f : List ℕ) (ws : List (List ℕ)) (c : Command) → length f ≡ 0 → Reads (w ∷ f ∷ ws) c → ⊥
+empty_name w f ws c empty r =
+    let s = count_of (w ∷ f ∷ ws) c r in
+    let t : w ∷ f ∷ ws ≡ codes "count" ∷ s.file ∷ s.named = s.words_are in
+    let same : f ≡ s.file = cc in
+    absurd (omega (arith, empty, ap length same, s.file_some))
+
 pub no_name : (ws : List (List ℕ)) → is_word ws 0 (codes "count") ≡ true → is_name ws 1 ≡ false → IsBadPlace ws 1
 no_name [] h k = let t : false ≡ true = grind (arith, nat_tests, h) in cc
 no_name (w ∷ []) h k =
     let e : w ≡ codes "count" = verb_is w [] h in
     record {
-      unread = λ c r. (let s = count_of (w ∷ []) c r in let e : w ∷ [] ≡ codes "count" ∷ s.file ∷ s.word ∷ [] = s.words_are in cc);
+      unread = λ c r. (let s = count_of (w ∷ []) c r in let e : w ∷ [] ≡ codes "count" ∷ s.file ∷ s.named = s.words_are in cc);
       within = omega arith;
       begins = subst (λ (v : List ℕ). Begins (v ∷ [])) (sym e) begins_verb;
       ends = λ lt on. absurd (omega arith);
@@ -153,87 +141,121 @@ no_name (w ∷ f ∷ ws) h k =
     let e : w ≡ codes "count" = verb_is w (f ∷ ws) h in
     let empty : length f ≡ 0 = name_is_not w f ws k in
     record {
-      unread = λ c r. (let s = count_of (w ∷ f ∷ ws) c r in
-          let t : w ∷ f ∷ ws ≡ codes "count" ∷ s.file ∷ s.word ∷ [] = s.words_are in
-          let same : f ≡ s.file = cc in
-          absurd (omega (arith, empty, ap length same, s.file_some)));
+      unread = λ c r. empty_name w f ws c empty r;
       within = omega arith;
       begins = subst (λ (v : List ℕ). Begins (v ∷ [])) (sym e) begins_verb;
-      ends = λ lt on. (let s = count_of (w ∷ f ∷ on.0) on.1 on.2 in
-          let t : w ∷ f ∷ on.0 ≡ codes "count" ∷ s.file ∷ s.word ∷ [] = s.words_are in
-          let same : f ≡ s.file = cc in
-          absurd (omega (arith, empty, ap length same, s.file_some)));
+      ends = λ lt on. empty_name w f on.0 on.1 empty on.2;
     }
 
-begins_with : (w f : List ℕ) → w ≡ codes "count" → 0 < length f → Begins (w ∷ f ∷ [])
-begins_with w f e some = subst (λ (v : List ℕ). Begins (v ∷ f ∷ [])) (sym e) (begins_file f some)
+-- words of which one is not taken
+begins_with : (w f : List ℕ) (named : List (List ℕ)) (settings : List Setting) → w ≡ codes "count" → 0 < length f → IsSettled Count named settings → Begins (w ∷ f ∷ named)
+begins_with w f named settings e some settled = subst (λ (v : List ℕ). Begins (v ∷ f ∷ named)) (sym e) (begins_named f named settings some settled)
 
-pub no_level : (ws : List (List ℕ)) → is_word ws 0 (codes "count") ≡ true → is_name ws 1 ≡ true → (2 < length ws → (twice : ℤ) → IsLevelWord (slice_index_or ws 2 []) twice → ⊥) → IsBadPlace ws 2
-no_level [] h k none = let t : false ≡ true = grind (arith, nat_tests, h) in cc
-no_level (w ∷ []) h k none = let t : false ≡ true = grind (arith, nat_tests, k) in cc
-no_level (w ∷ f ∷ []) h k none =
-    let e : w ≡ codes "count" = verb_is w (f ∷ []) h in
-    record {
-      unread = λ c r. (let s = count_of (w ∷ f ∷ []) c r in let e : w ∷ f ∷ [] ≡ codes "count" ∷ s.file ∷ s.word ∷ [] = s.words_are in cc);
-      within = omega arith;
-      begins = begins_with w f e (name_is w f [] k);
-      ends = λ lt on. absurd (omega arith);
-    }
-no_level (w ∷ f ∷ v ∷ ws) h k none =
-    let e : w ≡ codes "count" = verb_is w (f ∷ v ∷ ws) h in
-    let no : (twice : ℤ) → IsLevelWord v twice → ⊥ = none (omega arith) in
-    record {
-      unread = λ c r. (let s = count_of (w ∷ f ∷ v ∷ ws) c r in
-          let t : w ∷ f ∷ v ∷ ws ≡ codes "count" ∷ s.file ∷ s.word ∷ [] = s.words_are in
-          let same : s.word ≡ v = cc in
-          no s.twice (subst (λ (u : List ℕ). IsLevelWord u s.twice) same s.level));
-      within = omega arith;
-      begins = begins_with w f e (name_is w f (v ∷ ws) k);
-      ends = λ lt on. (let s = count_of (w ∷ f ∷ v ∷ on.0) on.1 on.2 in
-          let t : w ∷ f ∷ v ∷ on.0 ≡ codes "count" ∷ s.file ∷ s.word ∷ [] = s.words_are in
-          let same : s.word ≡ v = cc in
-          no s.twice (subst (λ (u : List ℕ). IsLevelWord u s.twice) same s.level));
-    }
+named_settled : (w f : List ℕ) (named : List (List ℕ)) (c : Command) (s : IsCount (w ∷ f ∷ named) c) → IsSettled Count named s.settings
+named_settled w f named c s =
+    let t : w ∷ f ∷ named ≡ codes "count" ∷ s.file ∷ s.named = s.words_are in
+    let same : s.named ≡ named = cc in
+    subst (λ (u : List (List ℕ)). IsSettled Count u s.settings) same s.settled
 
-whole_with : (w f v : List ℕ) (twice : ℤ) → w ≡ codes "count" → 0 < length f → IsLevelWord v twice → Begins (w ∷ f ∷ v ∷ [])
-whole_with w f v twice e some level = subst (λ (u : List ℕ). Begins (u ∷ f ∷ v ∷ [])) (sym e) (begins_whole f v twice some level)
+stuck_reads : (w f : List ℕ) (front : List (List ℕ)) (x : List ℕ) (back : List (List ℕ)) (seen : Seen) (c : Command) → IsTaken Count front seen → IsStuck Count seen x → Reads (w ∷ f ∷ (front ++ x ∷ back)) c → ⊥
+stuck_reads w f front x back seen c t stuck r =
+    let s = count_of (w ∷ f ∷ (front ++ x ∷ back)) c r in
+    stuck_none Count front x back seen s.settings t stuck (named_settled w f (front ++ x ∷ back) c s)
 
-pub more_words : (ws : List (List ℕ)) (twice : ℤ) → is_word ws 0 (codes "count") ≡ true → is_name ws 1 ≡ true → IsLevelWord (slice_index_or ws 2 []) twice → 3 < length ws → IsBadPlace ws 3
-more_words [] twice h k level more = absurd (omega arith)
-more_words (w ∷ []) twice h k level more = absurd (omega arith)
-more_words (w ∷ f ∷ []) twice h k level more = absurd (omega arith)
-more_words (w ∷ f ∷ v ∷ []) twice h k level more = absurd (omega arith)
-more_words (w ∷ f ∷ v ∷ u ∷ ws) twice h k level more =
-    let e : w ≡ codes "count" = verb_is w (f ∷ v ∷ u ∷ ws) h in
-    record {
-      unread = λ c r. (let s = count_of (w ∷ f ∷ v ∷ u ∷ ws) c r in let t : w ∷ f ∷ v ∷ u ∷ ws ≡ codes "count" ∷ s.file ∷ s.word ∷ [] = s.words_are in cc);
-      within = omega arith;
-      begins = whole_with w f v twice e (name_is w f (v ∷ u ∷ ws) k) level;
-      ends = λ lt on. (let s = count_of (w ∷ f ∷ v ∷ u ∷ on.0) on.1 on.2 in let t : w ∷ f ∷ v ∷ u ∷ on.0 ≡ codes "count" ∷ s.file ∷ s.word ∷ [] = s.words_are in cc);
+-- the list up to a place, the item at it, and what follows
+parted : (ws : List (List ℕ)) (k : ℕ) → k < length ws → take k ws ++ (slice_index_or ws k [] ∷ drop (suc k) ws) ≡ ws
+parted ws k lt =
+    sym (append_assoc (take k ws) (slice_index_or ws k [] ∷ []) (drop (suc k) ws)) ∙ ap (λ (u : List (List ℕ)). u ++ drop (suc k) ws) (sym (take-suc ws k [] lt)) ∙ take-append-drop (suc k) ws
+
+pub stop_place : (ws : List (List ℕ)) (place : ℕ) → is_word ws 0 (codes "count") ≡ true → is_name ws 1 ≡ true → IsStop Count ws 2 place → IsBadPlace ws place
+stop_place [] place h k stop = let t : false ≡ true = grind (arith, nat_tests, h) in cc
+stop_place (w ∷ []) place h k stop = let t : false ≡ true = grind (arith, nat_tests, k) in cc
+stop_place (w ∷ f ∷ rest) place h k stop =
+    let e : w ≡ codes "count" = verb_is w (f ∷ rest) h in
+    let p : suc (suc stop.taken) ≡ place = omega (arith, stop.place_is) in
+    subst (λ (n : ℕ). IsBadPlace (w ∷ f ∷ rest) n) p (stopped w f rest stop.taken stop.seen e (name_is w f rest k) stop.within stop.before stop.stuck)
+  where
+    stopped : (w f : List ℕ) (rest : List (List ℕ)) (k : ℕ) (seen : Seen) → w ≡ codes "count" → 0 < length f → k < length rest → IsTaken Count (take k rest) seen → IsStuck Count seen (slice_index_or rest k []) → IsBadPlace (w ∷ f ∷ rest) (suc (suc k))
+    stopped w f rest k seen e some lt t stuck = record {
+      unread = λ c r. stuck_reads w f (take k rest) (slice_index_or rest k []) (drop (suc k) rest) seen c t stuck (subst (λ (u : List (List ℕ)). Reads (w ∷ f ∷ u) c) (sym (parted rest k lt)) r);
+      within = omega (arith, lt);
+      begins = begins_with w f (take k rest) t.settings e some t.settled;
+      ends = λ less on.
+          let n : suc (suc k) + 1 ≡ suc (suc (suc k)) = omega arith in
+          let next : Begins (take (suc (suc (suc k))) (w ∷ f ∷ rest)) = subst (λ (m : ℕ). Begins (take m (w ∷ f ∷ rest))) n on in
+          let g : take (suc k) rest ++ next.0 ≡ take k rest ++ (slice_index_or rest k [] ∷ next.0) = ap (λ (u : List (List ℕ)). u ++ next.0) (take-suc rest k [] lt) ∙ append_assoc (take k rest) (slice_index_or rest k [] ∷ []) next.0 in
+          stuck_reads w f (take k rest) (slice_index_or rest k []) next.0 seen next.1 t stuck (subst (λ (u : List (List ℕ)). Reads (w ∷ f ∷ u) next.1) g next.2);
     }
 
-pub reads_all : (ws : List (List ℕ)) (twice : ℤ) → is_word ws 0 (codes "count") ≡ true → is_name ws 1 ≡ true → 2 < length ws → IsLevelWord (slice_index_or ws 2 []) twice → length ws ≤ 3 → Reads ws (CountSigns 1 twice)
-reads_all [] twice h k some level most = absurd (omega arith)
-reads_all (w ∷ []) twice h k some level most = absurd (omega arith)
-reads_all (w ∷ f ∷ []) twice h k some level most = absurd (omega arith)
-reads_all (w ∷ f ∷ v ∷ []) twice h k some level most =
-    subst (λ (u : List ℕ). Reads (u ∷ f ∷ v ∷ []) (CountSigns 1 twice)) (sym (verb_is w (f ∷ v ∷ []) h)) (reads_count f v twice (name_is w f (v ∷ []) k) level)
-reads_all (w ∷ f ∷ v ∷ u ∷ ws) twice h k some level most = absurd (omega arith)
+-- words that are all taken
+level_missing : (named : List (List ℕ)) (seen : Seen) (ss : List Setting) → IsTaken Count named seen → seen.level ≡ None → IsSettled Count named ss → is_set ss Level ≡ true → ⊥
+level_missing named seen ss t none settled there =
+    let e : t.settings ≡ ss = settings_once named t.settings ss t.settled.named_are settled.named_are in
+    let v : value_of ss Level ≡ None = ap (λ (u : List Setting). value_of u Level) (sym e) ∙ sym (t.held_are Level) ∙ none in
+    let f : is_set ss Level ≡ false = set_is Level ss ∙ ap is_some v in
+    cc
 
-one_level : (word : List ℕ) (a b : ℤ) → IsLevelWord word a → IsLevelWord word b → a ≡ b
-one_level word a b (text, e, l) (other, f, k) =
-    let t : codes "level=" ++ text ≡ codes "level=" ++ other = sym e ∙ f in
-    let same : other ≡ text = cc in
-    level_once text a b l (subst (λ (u : List ℕ). IsLevel u b) same k)
+pub no_level : (ws : List (List ℕ)) (seen : Seen) → is_word ws 0 (codes "count") ≡ true → is_name ws 1 ≡ true → IsTaken Count (drop 2 ws) seen → seen.level ≡ None → IsBadPlace ws (length ws)
+no_level [] seen h k t none = let t : false ≡ true = grind (arith, nat_tests, h) in cc
+no_level (w ∷ []) seen h k t none = let t : false ≡ true = grind (arith, nat_tests, k) in cc
+no_level (w ∷ f ∷ rest) seen h k t none = record {
+  unread = λ c r. (let s = count_of (w ∷ f ∷ rest) c r in level_missing rest seen s.settings t none (named_settled w f rest c s) s.level);
+  within = omega arith;
+  begins = subst (λ (u : List (List ℕ)). Begins u) (sym (take-length (w ∷ f ∷ rest))) (begins_with w f rest t.settings (verb_is w (f ∷ rest) h) (name_is w f rest k) t.settled);
+  ends = λ lt on. absurd (omega (arith, lt));
+}
+
+-- what the command is
+below_is : (b : Bool) (o : Option ℤ) → (if b then Some (pos 1) else None) ≡ o → b ≡ is_some o
+below_is true o e = ap is_some e
+below_is false o e = ap is_some e
+
+step_is : (o : Option ℕ) (p : Option ℤ) → option_map pos o ≡ p → unwrap_or o 1 ≡ unsigned_abs (unwrap_or p (pos 1))
+step_is None p e = ap (λ (q : Option ℤ). unsigned_abs (unwrap_or q (pos 1))) e
+step_is (Some n) p e = ap (λ (q : Option ℤ). unsigned_abs (unwrap_or q (pos 1))) e
+
+command_seen : (named : List (List ℕ)) (seen : Seen) (level : ℤ) (t : IsTaken Count named seen) → seen.level ≡ Some level → CountSigns 1 level seen.below (unwrap_or seen.step 1) ≡ command_of Count t.settings
+command_seen named seen level t e =
+    let l : level ≡ value_or t.settings Level (pos 0) = ap (λ (o : Option ℤ). unwrap_or o (pos 0)) (sym e ∙ t.held_are Level) in
+    let b : seen.below ≡ is_set t.settings Below = below_is seen.below (value_of t.settings Below) (t.held_are Below) ∙ sym (set_is Below t.settings) in
+    let s : unwrap_or seen.step 1 ≡ number_or t.settings Step 1 = step_is seen.step (value_of t.settings Step) (t.held_are Step) in
+    λ i. CountSigns 1 (l i) (b i) (s i)
+
+all_there : (named : List (List ℕ)) (seen : Seen) (level : ℤ) (t : IsTaken Count named seen) → seen.level ≡ Some level → list_all (is_set t.settings) (required Count) ≡ true
+all_there named seen level t e =
+    let v : value_of t.settings Level ≡ Some level = sym (t.held_are Level) ∙ e in
+    let f : is_set t.settings Level ≡ true = set_is Level t.settings ∙ ap is_some v in
+    rw f refl
+
+pub reads_all : (ws : List (List ℕ)) (seen : Seen) (level : ℤ) → is_word ws 0 (codes "count") ≡ true → is_name ws 1 ≡ true → IsTaken Count (drop 2 ws) seen → seen.level ≡ Some level → Reads ws (CountSigns 1 level seen.below (unwrap_or seen.step 1))
+reads_all [] seen level h k t e = let t : false ≡ true = grind (arith, nat_tests, h) in cc
+reads_all (w ∷ []) seen level h k t e = let t : false ≡ true = grind (arith, nat_tests, k) in cc
+reads_all (w ∷ f ∷ rest) seen level h k t e =
+    let whole : Reads (codes "count" ∷ f ∷ rest) (command_of Count t.settings) = reads_whole f rest t.settings (name_is w f rest k) t.settled (all_there rest seen level t e) in
+    subst (λ (u : List ℕ). Reads (u ∷ f ∷ rest) (CountSigns 1 level seen.below (unwrap_or seen.step 1))) (sym (verb_is w (f ∷ rest) h))
+    (subst (λ (d : Command). Reads (codes "count" ∷ f ∷ rest) d) (sym (command_seen rest seen level t e)) whole)
+
+-- the step is one of those that a word can say
+step_by : (named : List (List ℕ)) (settings : List Setting) (o : Option ℕ) → AllZip ReadsSetting named settings → option_map pos o ≡ value_of settings Step → (1 ≤ unwrap_or o 1) × (unwrap_or o 1 ≤ 64)
+step_by named settings None zip e = (omega arith, omega arith)
+step_by named settings (Some n) zip e =
+    let s = said_in named settings Step (pos n) zip (sym e) in
+    let v = s.value_is in
+    let same : n ≡ v.0 = cc (v.4) in
+    (omega (arith, same, v.1), omega (arith, same, v.2))
+
+pub step_within : (named : List (List ℕ)) (seen : Seen) → IsTaken Count named seen → (1 ≤ unwrap_or seen.step 1) × (unwrap_or seen.step 1 ≤ 64)
+step_within named seen t = step_by named t.settings seen.step t.settled.named_are (t.held_are Step)
 
 -- A list reads as one command at most, and words are bad at one place at most.
 pub one_command : (ws : List (List ℕ)) (c d : Command) → Reads ws c → Reads ws d → c ≡ d
 one_command ws c d r q =
     let s = count_of ws c r in
     let t = count_of ws d q in
-    let e : codes "count" ∷ s.file ∷ s.word ∷ [] ≡ codes "count" ∷ t.file ∷ t.word ∷ [] = sym s.words_are ∙ t.words_are in
-    let w : s.word ≡ t.word = cc in
-    s.command_is ∙ ap (CountSigns 1) (one_level s.word s.twice t.twice s.level (subst (λ (u : List ℕ). IsLevelWord u t.twice) (sym w) t.level)) ∙ sym t.command_is
+    let e : codes "count" ∷ s.file ∷ s.named ≡ codes "count" ∷ t.file ∷ t.named = sym s.words_are ∙ t.words_are in
+    let n : t.named ≡ s.named = cc in
+    let zip : AllZip ReadsSetting s.named t.settings = subst (λ (u : List (List ℕ)). AllZip ReadsSetting u t.settings) n t.settled.named_are in
+    s.command_is ∙ ap (command_of Count) (settings_once s.named s.settings t.settings s.settled.named_are zip) ∙ sym t.command_is
 
 -- a list whose beginning begins a command
 begins_before : (ws : List (List ℕ)) (m n : ℕ) → m ≤ n → Begins (take n ws) → Begins (take m ws)

@@ -1,24 +1,28 @@
--- What the code's commands and level words mean by the grammar.
-use Rattle.std.specs.Prelude.{◌≡◌, ℕ, ℤ, Bool, ◌&&◌, not, nat_lt, ◌==◌, List, [], ◌++◌, length, codes, slice_index_or}
+-- What the code's commands mean by the grammar.
+use Rattle.std.specs.Prelude.{ℕ, ℤ, Bool, ◌&&◌, not, nat_lt, ◌==◌, List, [], length, slice_index_or}
 use Rattle.std.specs.Str.{bytes_eq}
-use Rattle.formats.specs.Words.{IsLevel, Command as Meaning, CountSigns}
+use Rattle.formats.specs.Words.{Command as Meaning, CountSigns}
 use Rattle.command_words.specs.declared.command.Command.{Command}
 use Rattle.command_words.specs.declared.command.Command.TheVariants.{Count}
 
 abbrev pub meaning_of : Command → Meaning
-meaning_of (Count input level) = CountSigns input level
+meaning_of (Count input level below step) = CountSigns input level below step
 
 -- the number of the word that names the input
 abbrev pub input_of : Command → ℕ
-input_of (Count input level) = input
+input_of (Count input level below step) = input
 
 -- twice its level
 abbrev pub level_of : Command → ℤ
-level_of (Count input level) = level
+level_of (Count input level below step) = level
 
--- the word names a level
-abbrev pub IsLevelWord : List ℕ → ℤ → Type 0
-IsLevelWord word twice = (text : List ℕ) × (word ≡ codes "level=" ++ text) × IsLevel text twice
+-- whether it speaks of the region below the level
+abbrev pub below_of : Command → Bool
+below_of (Count input level below step) = below
+
+-- its step, in samples
+abbrev pub step_of : Command → ℕ
+step_of (Count input level below step) = step
 
 -- word n is this text
 abbrev pub is_word : List (List ℕ) → ℕ → List ℕ → Bool

@@ -1,9 +1,8 @@
-ghost use Rattle.std.specs.Prelude.{◌≡◌, ◌<◌, ℤ, List, ℕ, [], length, slice_index_or, Some, IfSome, IfNone, IfOk, IfErr};
+ghost use Rattle.std.specs.Prelude.{◌≡◌, ◌<◌, ◌≤◌, List, ℕ, length, IfOk, IfErr};
 ghost use Rattle.formats.specs.Words.{Reads, IsBadPlace, Command as Meaning};
-ghost use Rattle.command_words.specs.Commands.{IsLevelWord, is_word as is_word_lem, input_of, level_of, is_name as is_name_lem, meaning_of};
+ghost use Rattle.command_words.specs.Commands.{is_word as is_word_lem, input_of, level_of, below_of, step_of, is_name as is_name_lem, meaning_of};
 
-use crate::ends::after_start;
-use crate::numbers::level;
+use crate::settings::read_settings;
 use samples::Level;
 use st_base::Words;
 
@@ -11,7 +10,12 @@ use st_base::Words;
 #[derive(Clone, Copy)]
 pub enum Command {
     /// Count the signs of the vertices of a volume at a level, before any is moved.
-    Count { input: usize, level: Level },
+    Count {
+        input: usize,
+        level: Level,
+        below: bool,
+        step: u32,
+    },
 }
 
 impl Command {
@@ -32,16 +36,23 @@ impl Command {
             Command::Count { level, .. } => *level,
         }
     }
-}
 
-// The level that a word names.
-fn level_word(word: &[u8]) -> Option<Level>
-    ensures level { IfSome result (λ twice. IsLevelWord word.now twice) }
-    ensures found { (twice : ℤ) → IsLevelWord word.now twice → result ≡ Some twice }
-{
-    match after_start(word, b"level=") {
-        Some(text) => level(text),
-        None => None,
+    /// Whether the region lies below the level.
+    pub fn below(&self) -> bool
+        ensures { result ≡ below_of self.now }
+    {
+        match self {
+            Command::Count { below, .. } => *below,
+        }
+    }
+
+    /// The step along each axis, in samples.
+    pub fn step(&self) -> u32
+        ensures { result ≡ step_of self.now }
+    {
+        match self {
+            Command::Count { step, .. } => *step,
+        }
     }
 }
 
@@ -59,23 +70,12 @@ fn is_name(words: &Words, n: usize) -> bool
     n < words.len() && !words.word(n).is_empty()
 }
 
-// The level that word `n` names.
-fn level_at(words: &Words, n: usize) -> Option<Level>
-    ensures level { IfSome result (λ twice. (n < length words.now) × IsLevelWord (slice_index_or words.now n []) twice) }
-    ensures none { IfNone result (n < length words.now → (twice : ℤ) → IsLevelWord (slice_index_or words.now n []) twice → ⊥) }
-{
-    if n < words.len() {
-        level_word(words.word(n))
-    } else {
-        None
-    }
-}
-
 /// The command that the words are, or the place of bad words: the number of the first word with
 /// which no command goes on, or of words where all of them begin one.
 pub fn read_words(words: &Words) -> Result<Command, u64>
     ensures command { IfOk result (λ c. Reads words.now (meaning_of c)) }
     ensures input { IfOk result (λ c. input_of c < length words.now) }
+    ensures step { IfOk result (λ c. (1 ≤ step_of c) × (step_of c ≤ 64)) }
     ensures place { IfErr result (λ place. IsBadPlace words.now place) }
 {
     if !is_word(words, 0, b"count") {
@@ -84,13 +84,19 @@ pub fn read_words(words: &Words) -> Result<Command, u64>
     if !is_name(words, 1) {
         return Err(1);
     }
-    let Some(level) = level_at(words, 2) else {
-        return Err(2);
+    let seen = match read_settings(words, 2) {
+        Ok(seen) => seen,
+        Err(place) => return Err(place),
     };
-    if words.len() > 3 {
-        return Err(3);
-    }
-    Ok(Command::Count { input: 1, level })
+    let Some(level) = seen.level else {
+        return Err(words.len() as u64);
+    };
+    Ok(Command::Count {
+        input: 1,
+        level,
+        below: seen.below,
+        step: seen.step.unwrap_or(1),
+    })
 }
 
 /// A list of words reads as one command at most, and words are bad at one place at most.

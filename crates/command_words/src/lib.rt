@@ -4,6 +4,7 @@
 mod command;
 mod ends;
 mod numbers;
+mod settings;
 
 pub use command::{Command, read_words, words_read_once};
 pub use numbers::{halves, level, number};

@@ -1,6 +1,8 @@
 pub mod Counts
-pub mod PlainHead
+pub mod HeadLines
+pub mod Heads
 pub mod Volumes
 pub mod Words
+pub mod Samples
 pub mod Texts
 pub mod Faults

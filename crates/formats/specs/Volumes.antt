@@ -1,6 +1,6 @@
 -- The volume behind a head.
-use Rattle.std.specs.Prelude.{◌≡◌, ◌≤◌, ◌≤ℤ◌, ℕ, ◌-◌, ◌*◌, ◌^◌, Bool, ◌||◌, nat_lt, List, map, length, take, drop, slice_index, if◌then◌else◌, ℤ, pos, neg_ℤ, All}
-use Rattle.std.specs.List.{list_any}
+use Rattle.std.specs.Prelude.{◌≡◌, ◌≤◌, ◌≤ℤ◌, ℕ, ◌+◌, ◌-◌, ◌*◌, ◌^◌, Bool, ◌||◌, nat_lt, List, map, flat_map, length, drop, slice_index, if◌then◌else◌, ℤ, pos, neg_ℤ, All}
+use Rattle.std.specs.List.{list_any, range_with_len}
 use Rattle.std.specs.Int.{div_ceil}
 use Rattle.definitions.specs.declared.Dims.{Dims}
 use Rattle.definitions.specs.Lattice.{dims, padded_product, IsDims}
@@ -8,7 +8,8 @@ use Rattle.formats.specs.declared.Head.{Head}
 use Rattle.formats.specs.declared.Limits.{Limits}
 use Rattle.formats.specs.declared.Kind.{Kind}
 use Rattle.formats.specs.declared.Kind.TheVariants.{Uchar, Char, Ushort, Short, Uint, Int}
-use Rattle.formats.specs.PlainHead.{HeadAt}
+use Rattle.formats.specs.Heads.{HeadAt}
+use Rattle.formats.specs.Samples.{bytes_per_sample, sample_of_bytes}
 
 abbrev pub first_limits : Limits
 first_limits = record { dimension = 8192; padded = 4194304 }
@@ -25,9 +26,21 @@ kept_size step n = div_ceil n step
 abbrev pub kept_dims : Head → ℕ → Dims
 kept_dims head step = dims (kept_size step (slice_index head.raw 0)) (kept_size step (slice_index head.raw 1)) (kept_size step (slice_index head.raw 2))
 
--- the number of bytes of the samples: one each
+-- the number of bytes of the samples
 abbrev pub wanted_bytes : Head → ℕ
-wanted_bytes head = slice_index head.raw 0 * slice_index head.raw 1 * slice_index head.raw 2
+wanted_bytes head = slice_index head.raw 0 * slice_index head.raw 1 * slice_index head.raw 2 * bytes_per_sample head.kind
+
+-- the raw number of the sample that is kept as the one at (i, j, k)
+abbrev pub raw_number : Head → ℕ → ℕ → ℕ → ℕ → ℕ
+raw_number head step i j k = (k * step * slice_index head.raw 1 + j * step) * slice_index head.raw 0 + i * step
+
+-- the samples that are kept, x fastest
+unfoldable pub kept_samples : Head → ℕ → List ℕ → List ℤ
+kept_samples head step bytes =
+    let d = kept_dims head step in
+    flat_map
+    (λ k. flat_map (λ j. map (λ i. sample_of_bytes head.kind head.big bytes (raw_number head step i j k)) (range_with_len 0 d.nx)) (range_with_len 0 d.ny))
+    (range_with_len 0 d.nz)
 
 -- a raw size, or the product of the padded sizes, is above its limit
 abbrev pub is_too_large : Limits → Head → ℕ → Bool
@@ -69,10 +82,10 @@ pub record IsVolume (v : Volume) : Type 0 where
 abbrev pub bytes_behind : List ℕ → HeadAt → List ℕ
 bytes_behind input h = drop h.len input
 
--- the volume of all samples, a byte each
-abbrev pub volume_of : List ℕ → HeadAt → Volume
-volume_of input h =
-    record { dims = kept_dims h.head 1; step = 1; kind = h.head.kind; samples = map pos (take (wanted_bytes h.head) (bytes_behind input h)) }
+-- the volume that is kept with a step
+abbrev pub volume_of : List ℕ → HeadAt → ℕ → Volume
+volume_of input h step =
+    record { dims = kept_dims h.head step; step = step; kind = h.head.kind; samples = kept_samples h.head step (bytes_behind input h) }
 
 -- What reading the samples behind a head gives: too large with the product of the padded sizes, an end after some of the bytes that are wanted, or the volume.
 pub data VolumeAnswer : Type 0 where
@@ -80,10 +93,10 @@ pub data VolumeAnswer : Type 0 where
   EndsEarly : (got wanted : ℕ) → VolumeAnswer
   Whole : Volume → VolumeAnswer
 
-abbrev pub volume_answer : Limits → List ℕ → HeadAt → VolumeAnswer
-volume_answer limits input h =
-    if is_too_large limits h.head 1
-    then Large (padded_product (kept_dims h.head 1))
+abbrev pub volume_answer : Limits → List ℕ → HeadAt → ℕ → VolumeAnswer
+volume_answer limits input h step =
+    if is_too_large limits h.head step
+    then Large (padded_product (kept_dims h.head step))
     else if nat_lt (length (bytes_behind input h)) (wanted_bytes h.head)
     then EndsEarly (length (bytes_behind input h)) (wanted_bytes h.head)
-    else Whole (volume_of input h)
+    else Whole (volume_of input h step)

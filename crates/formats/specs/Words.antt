@@ -1,16 +1,29 @@
 -- The words of the command line, as a grammar of whole lists.
-use Rattle.std.specs.Prelude.{◌≡◌, ℕ, ◌+◌, ◌*◌, ◌^◌, ◌<◌, ◌≤◌, Bool, true, ◌||◌, IsTrue, List, [], ◌∷◌, ◌++◌, length, take, count_by, codes, decimal, ◌⊎◌, option_map, find, unwrap_or, nat_lt, ℤ, pos, neg_ℤ}
+use Rattle.std.specs.Prelude.{◌≡◌, ℕ, ◌+◌, ◌*◌, ◌^◌, ◌<◌, ◌≤◌, Bool, ◌||◌, ◌==◌, IsTrue, List, [], ◌∷◌, ◌++◌, length, take, count_by, codes, decimal, ◌⊎◌, option_map, find, unwrap_or, nat_lt, ℤ, pos, neg_ℤ, unsigned_abs}
 use Rattle.std.specs.List.{AllZip, list_any, list_all}
 
 -- the names of named words
 pub data Name : Type 0 where
   Level : Name
+  Below : Name
+  Step : Name
+
+abbrev pub name_number : Name → ℕ
+name_number Level = 0
+name_number Below = 1
+name_number Step = 2
 
 abbrev pub same_name : Name → Name → Bool
-same_name Level Level = true
+same_name a b = name_number a == name_number b
 
 abbrev pub name_text : Name → List ℕ
 name_text Level = codes "level="
+name_text Below = codes "below="
+name_text Step = codes "step="
+
+-- The text is a whole number from `low` to `high`, without a sign or a leading zero, and `value` is that number.
+abbrev pub IsNumber : ℕ → ℕ → List ℕ → ℤ → Type 0
+IsNumber low high text value = (n : ℕ) × (low ≤ n) × (n ≤ high) × (text ≡ decimal n) × (value ≡ pos n)
 
 -- The text is a number in halves, and `twice` is twice that number: a whole number below 2^32 without a sign or a leading zero, and then nothing, `.0` or `.5`.
 abbrev pub IsHalves : List ℕ → ℕ → Type 0
@@ -25,6 +38,8 @@ IsLevel text twice =
 -- What may stand behind a name, and the number that it says.
 abbrev pub IsValue : Name → List ℕ → ℤ → Type 0
 IsValue Level text value = IsLevel text value
+IsValue Below text value = (text ≡ codes "yes") × (value ≡ pos 1)
+IsValue Step text value = IsNumber 1 64 text value
 
 -- a named word, read
 pub record Setting : Type 0 where
@@ -52,7 +67,7 @@ abbrev pub required : Verb → List Name
 required Count = Level ∷ []
 
 abbrev pub optional : Verb → List Name
-optional Count = []
+optional Count = Below ∷ Step ∷ []
 
 abbrev pub is_among : List Name → Name → Bool
 is_among names n = list_any (same_name n) names
@@ -73,12 +88,15 @@ pub record IsComplete (v : Verb) (settings : List Setting) : Type 0 where
 abbrev pub value_or : List Setting → Name → ℤ → ℤ
 value_or settings n default = unwrap_or (option_map (λ (s : Setting). s.value) (find (is_of n) settings)) default
 
+abbrev pub number_or : List Setting → Name → ℕ → ℕ
+number_or settings n default = unsigned_abs (value_or settings n (pos default))
+
 -- A command. File names are the numbers of their words, and a level is given as twice the level.
 pub data Command : Type 0 where
-  CountSigns : (input : ℕ) (level : ℤ) → Command
+  CountSigns : (input : ℕ) (level : ℤ) (below : Bool) (step : ℕ) → Command
 
 abbrev pub command_of : Verb → List Setting → Command
-command_of Count s = CountSigns 1 (value_or s Level (pos 0))
+command_of Count s = CountSigns 1 (value_or s Level (pos 0)) (is_set s Below) (number_or s Step 1)
 
 -- A list of words reads as a command: the verb, the file names, and named words in any order.
 pub record Reads (words : List (List ℕ)) (c : Command) : Type 0 where

@@ -16,20 +16,16 @@ pub enum Kind {
     Int,
 }
 
-/// A line of the plain head. The thirteen of them stand in this order.
+/// A key of the head of a .mha file. A head is refused for the first key in this order.
 #[derive(Clone, Copy, Debug, PartialEq, Eq)]
-pub enum HeadLine {
+pub enum Key {
     ObjectType,
-    Dimensions,
+    NDims,
     BinaryData,
     ByteOrder,
     CompressedData,
-    TransformMatrix,
-    Offset,
-    CenterOfRotation,
-    AnatomicalOrientation,
-    ElementSpacing,
-    Sizes,
+    Channels,
+    DimSize,
     ElementType,
     DataFile,
 }
@@ -43,12 +39,24 @@ pub struct Head {
     pub big: bool,
 }
 
-/// Why there is no head. `place` is the number of bytes before the first line that is not the plain
-/// head's.
+/// Why there is no head, or none that is supported. `place` is the number of bytes before the line.
 #[derive(Clone, Copy, Debug, PartialEq, Eq)]
 pub enum HeadFault {
-    NotPlain { place: u64 },
+    /// A line has no `=`, or no key before it.
+    BadLine { place: u64 },
+    /// A key is not there that must be.
+    Missing { key: Key },
+    /// The value of a key is not well formed.
+    BadValue { key: Key },
+    /// The value of a key is well formed and not supported.
+    Unsupported { key: Key },
+    /// The first 65,536 bytes have no data line.
+    HeaderTooLong,
+    /// The input is shorter than that and has no data line.
+    HeadEnds,
+    /// The input could not be read.
     ReadFault,
+    /// Memory ran out.
     NoMemory,
 }
 
@@ -71,6 +79,8 @@ pub enum Status {
     BadWords { place: u64 },
     /// The input has no head that can be read.
     BadHeader { fault: HeadFault },
+    /// The value of a key of the head is not supported.
+    Unsupported { key: Key },
     /// A size is above its limit. `padded` is the product of the sizes with two more on each axis.
     TooLarge { padded: u128 },
     /// The input ends before the last sample, after `got` of `wanted` bytes.
@@ -92,6 +102,7 @@ impl Status {
             Status::Done => 0,
             Status::BadWords { .. } => 2,
             Status::BadHeader { .. } => 3,
+            Status::Unsupported { .. } => 4,
             Status::TooLarge { .. } => 5,
             Status::Truncated { .. } => 6,
             Status::ReadFault => 7,

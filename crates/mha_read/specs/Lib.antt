@@ -1,6 +1,12 @@
-pub mod Heads
+pub mod Faults
+pub mod Formed
 pub mod Lines
 pub mod LinesRead
+pub mod Meanings
+pub mod NextLine
+pub mod PairLists
+pub mod RawRows
+pub mod RawSizes
 pub mod Samples
 pub mod Told
 pub mod VolumeTold

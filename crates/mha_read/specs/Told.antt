@@ -1,38 +1,40 @@
 -- What reading a head comes to where the input is told.
-use Rattle.std.specs.Prelude.{◌≡◌, ◌⊎◌, ◌<◌, ℕ, ◌+◌, List, [], ◌∷◌, ◌++◌, length, Option, Result, Ok, Err, IsTrue, true, false, ⊤}
+use Rattle.std.specs.Prelude.{◌≡◌, ◌⊎◌, ◌<◌, ℕ, List, [], ◌∷◌, ◌++◌, length, filter_map, Option, Result, Ok, Err, IsTrue, true, false, ⊤}
 use Rattle.formats.specs.declared.Head.{Head}
 use Rattle.formats.specs.declared.HeadFault.{HeadFault}
-use Rattle.formats.specs.declared.HeadFault.TheVariants.{NotPlain, ReadFault, NoMemory}
-use Rattle.formats.specs.declared.HeadLine.{HeadLine}
-use Rattle.formats.specs.PlainHead.{HeadAt, fits, plain_head_of, head_taken, ends_in_head}
-use Rattle.mha_read.specs.Heads.{raw_behind}
-use Rattle.mha_read.specs.LinesRead.{Leaves, LinesRead, NoLine, CutShort, lines_of}
+use Rattle.formats.specs.declared.HeadFault.TheVariants.{ReadFault, NoMemory}
+use Rattle.formats.specs.HeadLines.{meaning_of, is_bad, is_data_line, pair_of, pairs_of}
+use Rattle.formats.specs.Heads.{HeadAt, head_of, head_taken, ends_in_head}
+use Rattle.st_base.specs.declared.NoMemory.{NoMemory as Memory}
+use Rattle.mha_read.specs.LinesRead.{Leaves}
+use Rattle.mha_read.specs.declared.pairs.Turn.{Turn}
+use Rattle.mha_read.specs.declared.pairs.Turn.TheVariants.{GoesOn, IsData, IsBad}
 
--- a line was read that does not fit
-pub record Unfit (form : HeadLine) (text : List ℕ) (place : ℕ) (done : List (List ℕ)) (left : Option (List ℕ)) : Type 0 where
-  pub line : List ℕ
-  pub more : List (List ℕ)
-  pub unfit : fits form line ≡ false
-  pub lines : lines_of text ≡ done ++ line ∷ more
-  pub leaves : Leaves text (place + (length line + 1)) left
+-- the pairs in some lines
+abbrev pub pairs_in : List (List ℕ) → List (List ℕ × List ℕ)
+pairs_in lines = filter_map (λ line. pair_of (meaning_of line)) lines
 
--- a line was read that fits
-pub record Fit (form : HeadLine) (text : List ℕ) (done : List (List ℕ)) (raw now : List ℕ) (place : ℕ) (left : Option (List ℕ)) : Type 0 where
-  pub line : List ℕ
-  pub fit : fits form line ≡ true
-  pub raw_is : now ≡ raw_behind form line raw
-  pub read : LinesRead text place left (done ++ line ∷ [])
+-- what a line does to the pairs before it
+abbrev pub Turns : Result Turn Memory → List (List ℕ × List ℕ) → List (List ℕ × List ℕ) → List ℕ → Type 0
+Turns (Ok GoesOn) old new line = (is_bad (meaning_of line) ≡ false) × (is_data_line (meaning_of line) ≡ false) × (new ≡ old ++ pairs_in (line ∷ []))
+Turns (Ok IsData) old new line = (is_bad (meaning_of line) ≡ false) × (is_data_line (meaning_of line) ≡ true) × (new ≡ old ++ pairs_in (line ∷ []))
+Turns (Ok IsBad) old new line = is_bad (meaning_of line) ≡ true
+Turns (Err fault) old new line = ⊤
 
--- what reading the line of a form at a place comes to
-abbrev pub FormRead : HeadLine → ℕ → List ℕ → Result (List ℕ × ℕ) HeadFault → List ℕ → List (List ℕ) → Option (List ℕ) → Type 0
-FormRead form place raw (Ok now) text done left = Fit form text done raw now.0 now.1 left
-FormRead form place raw (Err (NotPlain at)) text done left = (at ≡ place) × (Unfit form text place done left ⊎ NoLine text done left)
-FormRead form place raw (Err ReadFault) text done left = CutShort text place done left
-FormRead form place raw (Err NoMemory) text done left = ⊤
+-- A fault of reading comes before the last byte that is read for a head, or where the text ends in its head.
+abbrev pub IsEarly : List ℕ → ℕ → Type 0
+IsEarly text n = (n < head_taken text) ⊎ ((n ≡ length text) × IsTrue (ends_in_head text))
 
--- The answer is the one that the text has, and so is what is left. A fault of reading comes before the last byte that is read, or where the text ends in its head.
+-- The pairs are those of the text, or the fault is the one that it has, and what is left stands behind them.
+abbrev pub PairsRead : Result (List (List ℕ × List ℕ)) HeadFault → List ℕ → Option (List ℕ) → Type 0
+PairsRead (Ok pairs) text left = (n : ℕ) × (pairs_of text ≡ Ok (record { pairs = pairs; len = n })) × (n ≡ head_taken text) × Leaves text n left
+PairsRead (Err ReadFault) text left = (n : ℕ) × Leaves text n left × IsEarly text n
+PairsRead (Err NoMemory) text left = ⊤
+PairsRead (Err fault) text left = (pairs_of text ≡ Err fault) × Leaves text (head_taken text) left
+
+-- the answer is the one that the text has, and so is what is left
 abbrev pub Answers : Result Head HeadFault → List ℕ → Option (List ℕ) → Type 0
-Answers (Ok head) text left = (h : HeadAt) × (plain_head_of text ≡ Ok h) × (head ≡ h.head) × (h.len ≡ head_taken text) × Leaves text h.len left
-Answers (Err (NotPlain place)) text left = (plain_head_of text ≡ Err place) × Leaves text (head_taken text) left
-Answers (Err ReadFault) text left = (n : ℕ) × Leaves text n left × ((n < head_taken text) ⊎ ((n ≡ length text) × IsTrue (ends_in_head text)))
+Answers (Ok head) text left = (h : HeadAt) × (head_of text ≡ Ok h) × (head ≡ h.head) × (h.len ≡ head_taken text) × Leaves text h.len left
+Answers (Err ReadFault) text left = (n : ℕ) × Leaves text n left × IsEarly text n
 Answers (Err NoMemory) text left = ⊤
+Answers (Err fault) text left = (head_of text ≡ Err fault) × Leaves text (head_taken text) left

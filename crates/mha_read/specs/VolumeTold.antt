@@ -1,10 +1,11 @@
 -- What reading the samples behind a head comes to.
-use Rattle.std.specs.Prelude.{◌≡◌, ◌⊎◌, ◌<◌, ℕ, min, List, [], length, Option, Some, Result, Ok, Err, true, false, ⊤}
+use Rattle.std.specs.Prelude.{◌≡◌, ◌⊎◌, ◌<◌, ℕ, min, List, [], length, slice_index, Option, Some, Result, Ok, Err, true, false, ⊤}
 use Rattle.definitions.specs.Lattice.{padded_product}
 use Rattle.formats.specs.declared.Head.{Head}
 use Rattle.formats.specs.declared.Limits.{Limits}
 use Rattle.formats.specs.Volumes.{Volume, VolumeAnswer, Large, EndsEarly, Whole, is_too_large, kept_dims, wanted_bytes}
 use Rattle.mha_read.specs.LinesRead.{Leaves}
+use Rattle.mha_read.specs.declared.samples.Grid.{Grid}
 use Rattle.mha_read.specs.declared.volumes.VolFault.{VolFault}
 use Rattle.mha_read.specs.declared.volumes.VolFault.TheVariants.{TooLarge, Truncated, ReadFault, NoMemory}
 
@@ -23,3 +24,7 @@ VolumeTold answer wanted (Err (TooLarge padded)) rest left = (answer ≡ Large p
 VolumeTold answer wanted (Err (Truncated got all)) rest left = (answer ≡ EndsEarly got all) × (left ≡ Some [])
 VolumeTold answer wanted (Err ReadFault) rest left = (n : ℕ) × Leaves rest n left × ((n < min wanted (length rest)) ⊎ ((n ≡ length rest) × (n < wanted)))
 VolumeTold answer wanted (Err NoMemory) rest left = ⊤
+
+-- how the samples behind a head stand
+abbrev pub grid_in : Head → ℕ → Grid
+grid_in head step = record { kind = head.kind; big = head.big; width = slice_index head.raw 0; height = slice_index head.raw 1; step = step }

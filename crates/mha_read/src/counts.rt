@@ -1,15 +1,15 @@
-ghost use Rattle.std.specs.Prelude.{◌≡◌, ◌≢◌, ◌∷◌, [], ◌<◌, ◌≤◌, length, position, if◌then◌else◌, Some, None, IfSome, MatchOption};
-ghost use Rattle.std.specs.List.{slice_split};
+ghost use Rattle.std.specs.Prelude.{◌≡◌, ◌∷◌, [], ◌<◌, ◌≤◌, length, if◌then◌else◌, Some, None, IfSome, MatchOption};
+ghost use Rattle.std.specs.List.{list_all, position_or_len};
 ghost use Rattle.std.specs.Str.Parse.{digits_value};
-ghost use Rattle.formats.specs.Counts.{is_blank, is_positive_count};
-ghost use Rattle.formats.specs.PlainHead.{are_sizes, sizes_in};
-ghost use Rattle.mha_read.specs.Heads.{AreRawSizes};
+ghost use Rattle.formats.specs.Counts.{is_blank, is_count, is_positive_count};
+ghost use Rattle.formats.specs.Heads.{words_of};
+ghost use Rattle.mha_read.specs.RawSizes.{AreRawSizes, first_three};
 
-/// The number that 1 to 9 decimal digits write, where it is at least 1.
-pub fn positive_count(digits: &[u8]) -> Option<u32>
-    ensures value { result ≡ (if is_positive_count digits.now
-        then Some (digits_value 10 digits.now) else None) }
-    ensures positive { IfSome result (λ n. 1 ≤ n) }
+use crate::meaning::{blank, leading_blanks};
+
+/// The number that 1 to 9 decimal digits write.
+pub fn count(digits: &[u8]) -> Option<u32>
+    ensures value { result ≡ (if is_count digits.now then Some (digits_value 10 digits.now) else None) }
     ensures bound { IfSome result (λ n. n ≤ 999999999) }
 {
     if digits.is_empty() || digits.len() > 9 {
@@ -22,47 +22,83 @@ pub fn positive_count(digits: &[u8]) -> Option<u32>
         }
         value = value * 10 + u32::from(*digit - b'0');
     }
-    if value == 0 { None } else { Some(value) }
+    Some(value)
 }
 
-fn first_blank(text: &[u8]) -> Option<usize>
-    ensures place { result ≡ position is_blank text.now }
-    ensures within { IfSome result (λ at. at < length text.now) }
+/// The number that 1 to 9 decimal digits write, where it is at least 1.
+pub fn positive_count(digits: &[u8]) -> Option<u32>
+    ensures value { result ≡ (if is_positive_count digits.now then Some (digits_value 10 digits.now) else None) }
+    ensures positive { IfSome result (λ n. 1 ≤ n) }
+    ensures bound { IfSome result (λ n. n ≤ 999999999) }
 {
-    text.iter().position(|byte| *byte == b' ' || *byte == b'\t')
-}
-
-// What stands before the first blank, and what behind it.
-fn cut(text: &[u8]) -> Option<(&[u8], &[u8])>
-    ensures { MatchOption result
-        (slice_split is_blank text.now ≡ text.now ∷ [])
-        (λ parts. slice_split is_blank text.now ≡ parts.0.now ∷ slice_split is_blank parts.1.now) }
-{
-    match first_blank(text) {
-        Some(at) => Some((&text[..at], &text[at + 1..])),
-        None => None,
+    match count(digits) {
+        Some(value) if value >= 1 => Some(value),
+        _ => None,
     }
 }
 
-// The three parts of a text that has two blanks.
-fn three_parts(text: &[u8]) -> Option<(&[u8], &[u8], &[u8])>
-    ensures { MatchOption result
-        (length (slice_split is_blank text.now) ≢ 3)
-        (λ parts. slice_split is_blank text.now ≡ parts.0.now ∷ parts.1.now ∷ parts.2.now ∷ []) }
+// The place of the first blank, or the length where there is none.
+fn place_of_blank(text: &[u8]) -> usize
+    ensures value { result ≡ position_or_len is_blank text.now }
+    ensures bound { result ≤ length text.now }
 {
-    let (first, rest) = cut(text)?;
-    let (second, third) = cut(rest)?;
-    match cut(third) {
-        Some(_) => None,
-        None => Some((first, second, third)),
+    for (i, byte) in text.iter().enumerate() {
+        if blank(*byte) {
+            return i;
+        }
     }
+    text.len()
 }
 
-/// Three sizes with one blank between each two.
-pub fn raw_sizes(text: &[u8]) -> Option<[u32; 3]>
-    ensures value { result ≡ (if are_sizes text.now then Some (sizes_in text.now) else None) }
+// The first word of a value, and what stands behind it.
+fn next_word(value: &[u8]) -> Option<(&[u8], &[u8])>
+    ensures words { MatchOption result
+        (words_of value.now ≡ [])
+        (λ parts. words_of value.now ≡ parts.0.now ∷ words_of parts.1.now) }
+    ensures shorter { IfSome result (λ parts. length parts.1.now < length value.now) }
+{
+    let text = &value[leading_blanks(value)..];
+    if text.is_empty() {
+        return None;
+    }
+    let at = place_of_blank(text);
+    Some((&text[..at], &text[at..]))
+}
+
+/// How many words a value has, where all of them are counts of at least 1.
+pub fn size_count(value: &[u8]) -> Option<usize>
+    ensures { result ≡ (if list_all is_positive_count (words_of value.now) then Some (length (words_of value.now)) else None) }
+{
+    let mut rest = value;
+    let mut sizes = 0usize;
+    while let Some((word, behind)) = next_word(rest) {
+        if positive_count(word).is_none() {
+            return None;
+        }
+        sizes += 1;
+        rest = behind;
+    }
+    Some(sizes)
+}
+
+fn three_counts(first: &[u8], second: &[u8], third: &[u8]) -> Option<[u32; 3]>
+    ensures value { result ≡ first_three (first.now ∷ second.now ∷ third.now ∷ []) }
     ensures sizes { IfSome result AreRawSizes }
 {
-    let (x, y, z) = three_parts(text)?;
-    Some([positive_count(x)?, positive_count(y)?, positive_count(z)?])
+    Some([
+        positive_count(first)?,
+        positive_count(second)?,
+        positive_count(third)?,
+    ])
+}
+
+/// The three sizes that begin a value.
+pub fn raw_sizes(value: &[u8]) -> Option<[u32; 3]>
+    ensures value { result ≡ first_three (words_of value.now) }
+    ensures sizes { IfSome result AreRawSizes }
+{
+    let (first, rest) = next_word(value)?;
+    let (second, rest) = next_word(rest)?;
+    let (third, _) = next_word(rest)?;
+    three_counts(first, second, third)
 }

@@ -1,61 +1,108 @@
-ghost use Rattle.std.specs.Prelude.{◌≡◌, ◌≢◌, if◌then◌else◌, Some, None, IfSome, nat_eq, []};
-ghost use Rattle.std.specs.List.{starts_with};
-ghost use Rattle.std.specs.Str.{bytes_eq};
-ghost use Rattle.formats.specs.PlainHead.{fits};
-ghost use Rattle.formats.specs.declared.HeadLine.TheVariants.{Sizes};
-ghost use Rattle.mha_read.specs.Heads.{AreRawSizes, raw_behind};
+ghost use Rattle.std.specs.Prelude.{◌≡◌, ◌≢◌, ◌==◌, nat_lt, length, Some, None, Option, if◌then◌else◌, filter_map, true, IfSome};
+ghost use Rattle.formats.specs.declared.Key.TheVariants.{NDims, DimSize};
+ghost use Rattle.formats.specs.Counts.{is_count, is_positive_count};
+ghost use Rattle.formats.specs.Heads.{is_well_formed, is_required, form_fault, dimensions, keys};
+ghost use Rattle.mha_read.specs.Faults.{first_of, IsJudgement};
 
-use crate::counts::raw_sizes;
-use formats::HeadLine;
+use crate::counts::{count, positive_count, size_count};
+use crate::pairs::Pairs;
+use st_base::{HeadFault, Key};
 
-fn exactly(line: &[u8], text: &[u8], raw: [u32; 3]) -> Option<[u32; 3]>
-    ensures { result ≡ (if bytes_eq line.now text.now then Some raw else None) }
+/// The keys in the order in which they are looked at.
+pub const KEYS: [Key; 9] = [
+    Key::ObjectType,
+    Key::NDims,
+    Key::BinaryData,
+    Key::ByteOrder,
+    Key::CompressedData,
+    Key::Channels,
+    Key::DimSize,
+    Key::ElementType,
+    Key::DataFile,
+];
+
+fn dimension_count(pairs: &Pairs) -> Option<u32>
+    ensures { form_fault pairs.now NDims ≡ None → result ≡ Some (dimensions pairs.now) }
 {
-    if line == text { Some(raw) } else { None }
-}
-
-fn begun(line: &[u8], text: &[u8], raw: [u32; 3]) -> Option<[u32; 3]>
-    ensures { result ≡ (if starts_with nat_eq line.now text.now then Some raw else None) }
-{
-    if line.starts_with(text) {
-        Some(raw)
-    } else {
-        None
+    match pairs.value(Key::NDims) {
+        Some(value) => positive_count(value),
+        None => None,
     }
 }
 
-fn sizes_line(line: &[u8]) -> Option<[u32; 3]>
-    ensures value { result ≡ (if fits Sizes line.now
-        then Some (raw_behind Sizes line.now []) else None) }
-    ensures sizes { IfSome result AreRawSizes }
+// As many sizes as there are dimensions.
+fn has_sizes(pairs: &Pairs, value: &[u8]) -> bool
+    ensures { form_fault pairs.now NDims ≡ None → result ≡ is_well_formed pairs.now DimSize value.now }
 {
-    if line.starts_with(b"DimSize = ") {
-        raw_sizes(&line[10..])
-    } else {
-        None
+    match dimension_count(pairs) {
+        Some(dimensions) => match size_count(value) {
+            Some(sizes) => sizes == dimensions as usize,
+            None => false,
+        },
+        None => false,
     }
 }
 
-/// The raw sizes that are known behind a line, where it fits its form: those in the line of the
-/// sizes, and else the ones known before.
-pub fn fitted(form: HeadLine, line: &[u8], raw: [u32; 3]) -> Option<[u32; 3]>
-    ensures value { result ≡ (if fits form line.now then Some (raw_behind form line.now raw)
-        else None) }
-    ensures sizes { form ≡ Sizes → IfSome result AreRawSizes }
+fn is_formed(pairs: &Pairs, key: Key, value: &[u8]) -> bool
+    ensures others { key ≢ DimSize → result ≡ is_well_formed pairs.now key value.now }
+    ensures all { form_fault pairs.now NDims ≡ None → result ≡ is_well_formed pairs.now key value.now }
 {
-    match form {
-        HeadLine::ObjectType => exactly(line, b"ObjectType = Image", raw),
-        HeadLine::Dimensions => exactly(line, b"NDims = 3", raw),
-        HeadLine::BinaryData => exactly(line, b"BinaryData = True", raw),
-        HeadLine::ByteOrder => exactly(line, b"BinaryDataByteOrderMSB = False", raw),
-        HeadLine::CompressedData => exactly(line, b"CompressedData = False", raw),
-        HeadLine::TransformMatrix => begun(line, b"TransformMatrix = ", raw),
-        HeadLine::Offset => begun(line, b"Offset = ", raw),
-        HeadLine::CenterOfRotation => begun(line, b"CenterOfRotation = ", raw),
-        HeadLine::AnatomicalOrientation => begun(line, b"AnatomicalOrientation = ", raw),
-        HeadLine::ElementSpacing => begun(line, b"ElementSpacing = ", raw),
-        HeadLine::Sizes => sizes_line(line),
-        HeadLine::ElementType => exactly(line, b"ElementType = MET_UCHAR", raw),
-        HeadLine::DataFile => exactly(line, b"ElementDataFile = LOCAL", raw),
+    match key {
+        Key::ObjectType => !value.is_empty(),
+        Key::NDims => positive_count(value).is_some(),
+        Key::BinaryData => true,
+        Key::ByteOrder => true,
+        Key::CompressedData => true,
+        Key::Channels => count(value).is_some(),
+        Key::DimSize => has_sizes(pairs, value),
+        Key::ElementType => !value.is_empty(),
+        Key::DataFile => !value.is_empty(),
     }
+}
+
+fn required(key: Key) -> bool
+    ensures { result ≡ is_required key }
+{
+    matches!(key, Key::NDims | Key::DimSize | Key::ElementType)
+}
+
+// The fault of form of a key, where the ones before it have none.
+#[tactic(auto, unfolding(formats::specs::Heads::form_fault))]
+fn fault_of_form(pairs: &Pairs, key: Key) -> Option<HeadFault>
+    ensures others { key ≢ DimSize → result ≡ form_fault pairs.now key }
+    ensures all { form_fault pairs.now NDims ≡ None → result ≡ form_fault pairs.now key }
+    ensures kind { IfSome result IsJudgement }
+{
+    match pairs.value(key) {
+        Some(value) => {
+            if is_formed(pairs, key, value) {
+                None
+            } else {
+                Some(HeadFault::BadValue { key })
+            }
+        }
+        None => {
+            if required(key) {
+                Some(HeadFault::Missing { key })
+            } else {
+                None
+            }
+        }
+    }
+}
+
+/// The first key, in the order of keys, that is not there though it must be, or whose value is not
+/// well formed.
+pub fn first_form_fault(pairs: &Pairs) -> Option<HeadFault>
+    ensures value { result ≡ first_of (filter_map (form_fault pairs.now) keys) }
+    ensures kind { IfSome result IsJudgement }
+{
+    let keys = KEYS;
+    for key in &keys {
+        let fault = fault_of_form(pairs, *key);
+        if fault.is_some() {
+            return fault;
+        }
+    }
+    None
 }

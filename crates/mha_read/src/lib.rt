@@ -5,9 +5,12 @@ mod counts;
 mod filling;
 mod forms;
 mod lines;
-mod plain;
+mod meaning;
+mod pairs;
+mod reading;
 mod samples;
+mod support;
 mod volumes;
 
-pub use plain::read_head;
+pub use reading::read_head;
 pub use volumes::{VolFault, read_volume};

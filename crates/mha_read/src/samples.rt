@@ -1,14 +1,29 @@
-ghost use Rattle.std.specs.Prelude.{◌≡◌, ◌≢◌, ◌≤◌, ◌++◌, ◌<◌, ◌^◌, List, ℕ, pos, map, length, true, Err, OnOk, IsErrOf, All};
+ghost use Rattle.std.specs.Prelude.{◌≡◌, ◌≢◌, ◌≤◌, ◌≤ℤ◌, ◌+◌, ◌*◌, ◌/◌, ◌%◌, ◌^◌, ◌++◌, ◌==◌, ◌&&◌, List, ℕ, length, true, Err, IfOk, OnOk, IsErrOf, All};
 ghost use Rattle.formats.specs.declared.Port.{Port};
+ghost use Rattle.formats.specs.Samples.{bytes_per_sample as sample_bytes, sample_of_bytes};
+ghost use Rattle.formats.specs.Volumes.{kept_size, least_of, greatest_of};
 ghost use Rattle.st_base.specs.Causes.{Rose};
-ghost use Rattle.mha_read.specs.Samples.{ReadsSamples, ReadsPart};
+ghost use Rattle.mha_read.specs.RawRows.{kept_of_row};
+ghost use Rattle.mha_read.specs.Samples.{IsGrid, row_bytes, kept_rows, ReadsRows, ReadsSamples, FitsBehind, fault_behind};
 
 use crate::filling::fill;
-use st_base::{Desk, Failed};
+use sample_numbers::{bytes_per_sample, decode};
+use st_base::{Desk, Failed, Kind};
 use std::alloc::{AllocError, Global};
 
-// How many bytes are read at once.
+// How many bytes are read at once, at most.
 const PART: usize = 65536;
+
+/// How the raw samples stand, and every how many of them one is kept on each axis: the type, the
+/// order of bytes, the samples in a row and the rows in a plane.
+#[derive(Clone, Copy, Debug, PartialEq, Eq)]
+pub struct Grid {
+    pub kind: Kind,
+    pub big: bool,
+    pub width: usize,
+    pub height: usize,
+    pub step: usize,
+}
 
 /// Why samples were not read.
 #[derive(Clone, Copy, Debug, PartialEq, Eq)]
@@ -18,26 +33,91 @@ pub enum SampleFault {
     NoMemory,
 }
 
-// The bytes as numbers, at the end of a list.
-fn push_bytes(samples: &mut Vec<i64>, bytes: &[u8]) -> Result<(), AllocError>
-    ensures numbers { OnOk result (samples.new.items ≡ samples.old.items ++ map pos bytes.now) }
-    ensures small { All (λ b. b < 2 ^ 8) bytes.now }
+// Sample n, from 0.
+#[inline]
+fn sample_at(bytes: &[u8], grid: &Grid, n: usize) -> i64
+    requires { (n + 1) * sample_bytes grid.now.kind ≤ length bytes.now }
+    ensures value { result ≡ sample_of_bytes grid.now.kind grid.now.big bytes.now n }
+    ensures low { least_of grid.now.kind ≤ℤ result }
+    ensures high { result ≤ℤ greatest_of grid.now.kind }
 {
-    for byte in bytes {
-        samples.push(i64::from(*byte))?;
+    let at = n * bytes_per_sample(grid.kind);
+    decode(grid.kind, grid.big, &bytes[at..])
+}
+
+// The kept samples of a row, at the end of a list. The row's first is the sample of that number.
+fn push_row(
+    samples: &mut Vec<i64>,
+    bytes: &[u8],
+    grid: &Grid,
+    first: usize,
+) -> Result<(), AllocError>
+    requires grid { IsGrid grid.now }
+    requires within { (first + grid.now.width) * sample_bytes grid.now.kind ≤ length bytes.now }
+    ensures numbers { OnOk result (samples.new.items ≡ samples.old.items ++
+        kept_of_row (sample_of_bytes grid.now.kind grid.now.big bytes.now) grid.now.width grid.now.step first) }
+    ensures low { All (λ z. least_of grid.now.kind ≤ℤ z) samples.old.items →
+        All (λ z. least_of grid.now.kind ≤ℤ z) samples.new.items }
+    ensures high { All (λ z. z ≤ℤ greatest_of grid.now.kind) samples.old.items →
+        All (λ z. z ≤ℤ greatest_of grid.now.kind) samples.new.items }
+{
+    for i in 0..grid.width.div_ceil(grid.step) {
+        samples.push(sample_at(bytes, grid, first + i * grid.step))?;
     }
     Ok(())
 }
 
-// Reads samples through a buffer, and answers how many there were.
-fn read_part<D: Desk>(
+fn keeps_row(grid: &Grid, row: usize) -> bool
+    requires { IsGrid grid.now }
+    ensures { result ≡ ((row / grid.now.height) % grid.now.step == 0 && (row % grid.now.height) % grid.now.step == 0) }
+{
+    (row / grid.height) % grid.step == 0 && (row % grid.height) % grid.step == 0
+}
+
+// The kept samples of rows, at the end of a list. Rows that are not kept are not decoded.
+fn push_rows(
+    samples: &mut Vec<i64>,
+    bytes: &[u8],
+    grid: &Grid,
+    row: usize,
+    rows: usize,
+) -> Result<(), AllocError>
+    requires grid { IsGrid grid.now }
+    requires within { length bytes.now ≡ rows * row_bytes grid.now }
+    requires bound { row + rows ≤ 2 ^ 26 }
+    ensures numbers { OnOk result (samples.new.items ≡ samples.old.items ++ kept_rows grid.now bytes.now row rows) }
+    ensures low { All (λ z. least_of grid.now.kind ≤ℤ z) samples.old.items →
+        All (λ z. least_of grid.now.kind ≤ℤ z) samples.new.items }
+    ensures high { All (λ z. z ≤ℤ greatest_of grid.now.kind) samples.old.items →
+        All (λ z. z ≤ℤ greatest_of grid.now.kind) samples.new.items }
+{
+    for i in 0..rows {
+        if keeps_row(grid, row + i) {
+            push_row(samples, bytes, grid, i * grid.width)?;
+        }
+    }
+    Ok(())
+}
+
+// Reads rows through a buffer of their size.
+fn read_rows<D: Desk>(
     desk: &mut D,
     samples: &mut Vec<i64>,
     buffer: &mut [u8],
-) -> Result<usize, SampleFault>
-    requires { (D.input desk.old).is_open ≡ true }
-    ensures part { ReadsPart (D.input desk.old).left
-        (D.input desk.new).left (length buffer.new) samples.old.items samples.new.items result }
+    grid: &Grid,
+    row: usize,
+    rows: usize,
+) -> Result<(), SampleFault>
+    requires is_open { (D.input desk.old).is_open ≡ true }
+    requires grid { IsGrid grid.now }
+    requires room { length buffer.old ≡ rows * row_bytes grid.now }
+    requires bound { row + rows ≤ 2 ^ 26 }
+    ensures rows { ReadsRows grid.now (D.input desk.old).left (D.input desk.new).left row rows
+        samples.old.items samples.new.items result }
+    ensures low { All (λ z. least_of grid.now.kind ≤ℤ z) samples.old.items →
+        All (λ z. least_of grid.now.kind ≤ℤ z) samples.new.items }
+    ensures high { All (λ z. z ≤ℤ greatest_of grid.now.kind) samples.old.items →
+        All (λ z. z ≤ℤ greatest_of grid.now.kind) samples.new.items }
     ensures fault { IsErrOf result SampleFault.ReadFault →
         Rose (D.input desk.old).faults (D.input desk.new).faults }
     ensures none { result ≢ Err SampleFault.ReadFault →
@@ -49,22 +129,45 @@ fn read_part<D: Desk>(
     ensures held { (n : List ℕ) → D.held desk.new n ≡ D.held desk.old n }
 {
     match fill(desk, buffer) {
-        Ok(count) => match push_bytes(samples, &buffer[..count]) {
-            Ok(()) => Ok(count),
-            Err(_) => Err(SampleFault::NoMemory),
-        },
-        Err(Failed) => Err(SampleFault::ReadFault),
+        Ok(count) => {
+            if count < buffer.len() {
+                return Err(SampleFault::Truncated { got: count as u64 });
+            }
+        }
+        Err(Failed) => return Err(SampleFault::ReadFault),
+    }
+    match push_rows(samples, buffer, grid, row, rows) {
+        Ok(()) => Ok(()),
+        Err(_) => Err(SampleFault::NoMemory),
     }
 }
 
-/// Reads so many samples of a byte each.
+// The same fault where bytes were taken before.
+fn behind(fault: SampleFault, before: u64) -> SampleFault
+    requires { FitsBehind fault before }
+    ensures { result ≡ fault_behind fault before }
+{
+    match fault {
+        SampleFault::Truncated { got } => SampleFault::Truncated { got: before + got },
+        SampleFault::ReadFault => SampleFault::ReadFault,
+        SampleFault::NoMemory => SampleFault::NoMemory,
+    }
+}
+
+/// Reads the samples of all rows, and keeps some of them.
 pub fn read_samples<D: Desk>(
     alloc: Global,
     desk: &mut D,
-    wanted: usize,
+    grid: &Grid,
+    rows: usize,
+    kept: usize,
 ) -> Result<Vec<i64>, SampleFault>
-    requires { (D.input desk.old).is_open ≡ true }
-    ensures samples { ReadsSamples (D.input desk.old).left (D.input desk.new).left wanted result }
+    requires is_open { (D.input desk.old).is_open ≡ true }
+    requires grid { IsGrid grid.now }
+    requires bound { rows ≤ 2 ^ 26 }
+    ensures samples { ReadsSamples grid.now (D.input desk.old).left (D.input desk.new).left rows result }
+    ensures low { IfOk result (λ v. All (λ z. least_of grid.now.kind ≤ℤ z) v.items) }
+    ensures high { IfOk result (λ v. All (λ z. z ≤ℤ greatest_of grid.now.kind) v.items) }
     ensures fault { IsErrOf result SampleFault.ReadFault →
         Rose (D.input desk.old).faults (D.input desk.new).faults }
     ensures none { result ≢ Err SampleFault.ReadFault →
@@ -75,24 +178,28 @@ pub fn read_samples<D: Desk>(
     ensures tried { D.tried desk.new ≡ D.tried desk.old }
     ensures held { (n : List ℕ) → D.held desk.new n ≡ D.held desk.old n }
 {
-    let Ok(mut samples) = Vec::with_capacity(alloc, wanted) else {
+    let Ok(mut samples) = Vec::with_capacity(alloc, kept) else {
         return Err(SampleFault::NoMemory);
     };
     let mut buffer = [0u8; PART];
-    let mut got = 0usize;
-    for _ in 0..wanted {
-        if got >= wanted {
+    let row_len = grid.width * bytes_per_sample(grid.kind);
+    let most = PART / row_len;
+    let mut row = 0usize;
+    for _ in 0..rows {
+        if row >= rows {
             return Ok(samples);
         }
-        let room = (wanted - got).min(PART);
-        match read_part(desk, &mut samples, &mut buffer[..room]) {
-            Ok(count) => {
-                got += count;
-                if count < room {
-                    return Err(SampleFault::Truncated { got: got as u64 });
-                }
-            }
-            Err(fault) => return Err(fault),
+        let part = (rows - row).min(most);
+        match read_rows(
+            desk,
+            &mut samples,
+            &mut buffer[..part * row_len],
+            grid,
+            row,
+            part,
+        ) {
+            Ok(()) => row += part,
+            Err(fault) => return Err(behind(fault, (row * row_len) as u64)),
         }
     }
     Ok(samples)

@@ -4,10 +4,11 @@ ghost use Rattle.definitions.specs.Lattice.{dims, padded_product, IsDims};
 ghost use Rattle.formats.specs.declared.Port.{Port};
 ghost use Rattle.formats.specs.Volumes.{AreLimits, is_too_large, kept_dims, kept_size, wanted_bytes, volume_answer};
 ghost use Rattle.st_base.specs.Causes.{Rose};
-ghost use Rattle.mha_read.specs.Heads.{IsHead, AreRawSizes};
-ghost use Rattle.mha_read.specs.VolumeTold.{FollowsHead, VolumeTold};
+ghost use Rattle.mha_read.specs.RawSizes.{AreRawSizes};
+ghost use Rattle.mha_read.specs.VolumeTold.{FollowsHead, VolumeTold, grid_in};
 
-use crate::samples::{SampleFault, read_samples};
+use crate::samples::{Grid, SampleFault, read_samples};
+use sample_numbers::bytes_per_sample;
 use st_base::{Desk, Dims, Head, Limits, Volume};
 use std::alloc::Global;
 use thiserror::Error;
@@ -83,7 +84,7 @@ fn is_large(raw: &[u32; 3], limit: u32) -> bool
 
 // The kept sizes where the volume is within the limits, and else the padded product.
 fn allowed_sizes(head: &Head, step: u32, limits: &Limits) -> Result<Dims, u128>
-    requires head { IsHead head.now }
+    requires sizes { AreRawSizes head.now.raw }
     requires step { 1 ≤ step }
     requires limits { AreLimits limits.now }
     ensures value { result ≡ (if is_too_large limits.now head.now step
@@ -101,18 +102,51 @@ fn allowed_sizes(head: &Head, step: u32, limits: &Limits) -> Result<Dims, u128>
     }
 }
 
-// The number of raw samples.
-fn sample_count(raw: &[u32; 3]) -> u64
-    requires three { length raw.now ≡ 3 }
-    requires x { slice_index raw.now 0 ≤ 8192 }
-    requires y { slice_index raw.now 1 ≤ 8192 }
-    requires z { slice_index raw.now 2 ≤ 8192 }
-    ensures { result ≡ slice_index raw.now 0 * slice_index raw.now 1 * slice_index raw.now 2 }
+// The number of bytes of all raw samples.
+fn byte_count(head: &Head) -> u64
+    requires three { length head.now.raw ≡ 3 }
+    requires x { slice_index head.now.raw 0 ≤ 8192 }
+    requires y { slice_index head.now.raw 1 ≤ 8192 }
+    requires z { slice_index head.now.raw 2 ≤ 8192 }
+    ensures { result ≡ wanted_bytes head.now }
 {
-    u64::from(raw[0]) * u64::from(raw[1]) * u64::from(raw[2])
+    let samples = u64::from(head.raw[0]) * u64::from(head.raw[1]) * u64::from(head.raw[2]);
+    samples * bytes_per_sample(head.kind) as u64
 }
 
-/// Reads the samples behind a head, a byte each, and nothing after them.
+// The number of raw rows.
+fn row_count(head: &Head) -> usize
+    requires three { length head.now.raw ≡ 3 }
+    requires y { slice_index head.now.raw 1 ≤ 8192 }
+    requires z { slice_index head.now.raw 2 ≤ 8192 }
+    ensures value { result ≡ slice_index head.now.raw 1 * slice_index head.now.raw 2 }
+    ensures bound { result ≤ 2 ^ 26 }
+{
+    head.raw[1] as usize * head.raw[2] as usize
+}
+
+fn grid_of(head: &Head, step: u32) -> Grid
+    requires three { length head.now.raw ≡ 3 }
+    ensures { result ≡ grid_in head.now step }
+{
+    Grid {
+        kind: head.kind,
+        big: head.big,
+        width: head.raw[0] as usize,
+        height: head.raw[1] as usize,
+        step: step as usize,
+    }
+}
+
+// The number of kept samples.
+fn sample_count(sizes: Dims) -> usize
+    requires { IsDims sizes }
+    ensures { result ≡ sizes.nx * sizes.ny * sizes.nz }
+{
+    sizes.nx as usize * sizes.ny as usize * sizes.nz as usize
+}
+
+/// Reads the samples behind a head, and nothing after them, and keeps every `step`-th on each axis.
 ///
 /// TooLarge is answered exactly where a raw size or the padded product is above its limit, with that
 /// product; nothing is read then. Truncated is answered where the input ends after `got < wanted`
@@ -125,12 +159,13 @@ pub fn read_volume<D: Desk>(
     limits: &Limits,
 ) -> Result<Volume, VolFault>
     requires is_open { (D.input desk.old).is_open ≡ true }
-    requires head { IsHead head.now }
-    requires step { step ≡ 1 }
+    requires sizes { AreRawSizes head.now.raw }
+    requires step { 1 ≤ step }
+    requires step_bound { step ≤ 64 }
     requires limits { AreLimits limits.now }
     ensures follows { FollowsHead limits.now head.now step result }
     ensures told { (text : List ℕ) (len : ℕ) → (D.input desk.old).left ≡ Some (drop len text) →
-        VolumeTold (volume_answer limits.now text (record { head = head.now; len = len }))
+        VolumeTold (volume_answer limits.now text (record { head = head.now; len = len }) step)
         (wanted_bytes head.now) result (drop len text) (D.input desk.new).left }
     ensures unread { is_too_large limits.now head.now step ≡ true →
         D.input desk.new ≡ D.input desk.old }
@@ -148,11 +183,14 @@ pub fn read_volume<D: Desk>(
         Ok(sizes) => sizes,
         Err(padded) => return Err(VolFault::TooLarge { padded }),
     };
-    let wanted = sample_count(&head.raw);
-    match read_samples(alloc, desk, wanted as usize) {
+    let grid = grid_of(head, step);
+    match read_samples(alloc, desk, &grid, row_count(head), sample_count(sizes)) {
         Ok(samples) => Ok(Volume::new(sizes, step, head.kind, samples)),
         Err(fault) => match fault {
-            SampleFault::Truncated { got } => Err(VolFault::Truncated { got, wanted }),
+            SampleFault::Truncated { got } => {
+                let wanted = byte_count(head);
+                Err(VolFault::Truncated { got, wanted })
+            }
             SampleFault::ReadFault => Err(VolFault::ReadFault),
             SampleFault::NoMemory => Err(VolFault::NoMemory),
         },

@@ -96,6 +96,24 @@ impl Field {
         self.difference_along(self.row(j, k), i)
     }
 
+    /// The difference at a corner of the image, counted from the padding corner: `i` from 1 to `nx`, and so on.
+    /// It is one read.
+    #[inline]
+    #[tactic(auto, unfolding(definitions::specs::Values::corner_difference))]
+    pub fn difference_inside(&self, i: u32, j: u32, k: u32) -> i64
+        requires i_low { 1 ≤ i }
+        requires j_low { 1 ≤ j }
+        requires k_low { 1 ≤ k }
+        requires i_high { i ≤ self.now.dims.nx }
+        requires j_high { j ≤ self.now.dims.ny }
+        requires k_high { k ≤ self.now.dims.nz }
+        ensures value { result ≡ corner_difference self.now i j k }
+    {
+        let Dims { nx, ny, .. } = self.dims;
+        let row = (k as usize - 1) * ny as usize + (j as usize - 1);
+        number(&self.differences, row * nx as usize + (i as usize - 1))
+    }
+
     #[inline]
     #[tactic(auto, using(crate::proofs::Sizes::ny_within))]
     fn edge(&self, i: u32, j: u32, k: u32) -> i64

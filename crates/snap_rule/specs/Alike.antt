@@ -1,5 +1,6 @@
 -- Corners with one sign around a vertex, and in the lines of corners along x around a row of vertices.
 use Rattle.std.specs.Prelude.{◌≡◌, ℕ, ◌+◌, ◌*◌, ◌<◌, ◌≤◌}
+use Rattle.definitions.specs.declared.Dims.{Dims}
 use Rattle.definitions.specs.declared.Sign.{Sign}
 use Rattle.definitions.specs.declared.Vertex.{Vertex}
 use Rattle.definitions.specs.Values.{Field, corner_difference, sign_of}
@@ -15,6 +16,13 @@ pub record IsNear (n x i : ℕ) : Type 0 where
 abbrev pub HasAround : Field → Vertex → Sign → Type 0
 HasAround f v s =
     (i j k : ℕ) → IsNear f.dims.nx v.x i → IsNear f.dims.ny v.y j → IsNear f.dims.nz v.h k → sign_of (corner_difference f i j k) ≡ s
+
+-- the lines run through the image
+pub record AreInside (d : Dims) (l : Lines) : Type 0 where
+  pub j_low : 1 ≤ l.j_low
+  pub j_high : l.j_high ≤ d.ny
+  pub k_low : 1 ≤ l.k_low
+  pub k_high : l.k_high ≤ d.nz
 
 -- the corners of the lines with the numbers i and k have the sign
 abbrev pub IsSide : Field → Lines → Sign → ℕ → ℕ → Type 0

@@ -2,10 +2,11 @@ ghost use Rattle.std.specs.Prelude.{◌≡◌, ℕ, ◌+◌, ◌-◌, ◌*◌, �
 ghost use Rattle.definitions.specs.Lattice.{IsDims, layers};
 ghost use Rattle.definitions.specs.Values.{corner_difference, sign_of};
 ghost use Rattle.lattice_counts.specs.Counts.{row_len};
-ghost use Rattle.snap_rule.specs.Alike.{AreAround, AreColumns, IsColumn, IsSide};
+ghost use Rattle.snap_rule.specs.Alike.{AreAround, AreColumns, AreInside, IsColumn, IsSide};
 
 use definitions::Sign;
 use samples::Field;
+use st_base::Dims;
 
 /// The lines of corners along x around a row of vertices, by the numbers of their corners from the
 /// padding corner on the axes y and z, both ends included.
@@ -39,10 +40,9 @@ pub fn lines_around(field: &Field, h: u32, j: u32) -> Lines
 }
 
 #[inline]
-fn corner_sign(field: &Field, i: u32, j: u32, k: u32) -> Sign
-    ensures { result ≡ sign_of (corner_difference field.now i j k) }
+fn sign_of(difference: i64) -> Sign
+    ensures { result ≡ sign_of difference }
 {
-    let difference = field.difference(i, j, k);
     if difference > 0 {
         Sign::Plus
     } else if difference == 0 {
@@ -50,6 +50,24 @@ fn corner_sign(field: &Field, i: u32, j: u32, k: u32) -> Sign
     } else {
         Sign::Minus
     }
+}
+
+#[inline]
+fn has_sign(difference: i64, sign: Sign) -> bool
+    ensures { result ≡ true → sign_of difference ≡ sign }
+{
+    match sign {
+        Sign::Plus => difference > 0,
+        Sign::Zero => difference == 0,
+        Sign::Minus => difference < 0,
+    }
+}
+
+#[inline]
+fn corner_sign(field: &Field, i: u32, j: u32, k: u32) -> Sign
+    ensures { result ≡ sign_of (corner_difference field.now i j k) }
+{
+    sign_of(field.difference(i, j, k))
 }
 
 /// Whether the corners with the numbers `i` and `k` in the lines have the sign.
@@ -65,8 +83,8 @@ fn is_side(field: &Field, lines: Lines, sign: Sign, i: u32, k: u32) -> bool
     true
 }
 
-/// Whether the corners with the number `i` in the lines have the sign.
-fn is_column(field: &Field, lines: Lines, sign: Sign, i: u32) -> bool
+/// Whether the corners with the number `i` in the lines have the sign, each read by its place.
+fn is_column_by_place(field: &Field, lines: Lines, sign: Sign, i: u32) -> bool
     requires j { lines.j_high < 2 ^ 31 }
     requires k { lines.k_high < 2 ^ 31 }
     ensures { result ≡ true → IsColumn field.now lines sign i }
@@ -77,6 +95,64 @@ fn is_column(field: &Field, lines: Lines, sign: Sign, i: u32) -> bool
         }
     }
     true
+}
+
+/// The same as `is_side`, where the corners are of the image.
+#[inline]
+#[tactic(auto, using(lattice_counts::proofs::Sizes::ny_small))]
+fn is_side_inside(field: &Field, lines: Lines, sign: Sign, i: u32, k: u32) -> bool
+    requires sizes { IsDims field.now.dims }
+    requires lines { AreInside field.now.dims lines }
+    requires i_low { 1 ≤ i }
+    requires i_high { i ≤ field.now.dims.nx }
+    requires k_low { 1 ≤ k }
+    requires k_high { k ≤ field.now.dims.nz }
+    ensures { result ≡ true → IsSide field.now lines sign i k }
+{
+    for j in lines.j_low..lines.j_high + 1 {
+        if !has_sign(field.difference_inside(i, j, k), sign) {
+            return false;
+        }
+    }
+    true
+}
+
+#[inline]
+#[tactic(auto, using(lattice_counts::proofs::Sizes::nz_small))]
+fn is_column_inside(field: &Field, lines: Lines, sign: Sign, i: u32) -> bool
+    requires sizes { IsDims field.now.dims }
+    requires lines { AreInside field.now.dims lines }
+    requires i_low { 1 ≤ i }
+    requires i_high { i ≤ field.now.dims.nx }
+    ensures { result ≡ true → IsColumn field.now lines sign i }
+{
+    for k in lines.k_low..lines.k_high + 1 {
+        if !is_side_inside(field, lines, sign, i, k) {
+            return false;
+        }
+    }
+    true
+}
+
+#[inline]
+fn are_inside(dims: Dims, lines: Lines) -> bool
+    ensures { result ≡ true → AreInside dims lines }
+{
+    1 <= lines.j_low && lines.j_high <= dims.ny && 1 <= lines.k_low && lines.k_high <= dims.nz
+}
+
+/// Whether the corners with the number `i` in the lines have the sign.
+fn is_column(field: &Field, lines: Lines, sign: Sign, i: u32) -> bool
+    requires j { lines.j_high < 2 ^ 31 }
+    requires k { lines.k_high < 2 ^ 31 }
+    ensures { result ≡ true → IsColumn field.now lines sign i }
+{
+    let dims = field.dims();
+    if 1 <= i && i <= dims.nx && are_inside(dims, lines) {
+        is_column_inside(field, lines, sign, i)
+    } else {
+        is_column_by_place(field, lines, sign, i)
+    }
 }
 
 /// The sign that corners of the lines have from the number `start` on.

@@ -8,7 +8,7 @@ use Rattle.std.specs.Prelude.{OnOk, OnErr}
 use Rattle.st_base.specs.Causes.{HasCause}
 use Rattle.formats.specs.Faults.{fault_line, trouble_text}
 use Rattle.formats.specs.declared.Status.{Status}
-use Rattle.formats.specs.declared.Status.TheVariants.{Done, BadWords, BadHeader, TooLarge, Truncated, ReadFault, WriteFault, NoMemory}
+use Rattle.formats.specs.declared.Status.TheVariants.{Done, BadWords, BadHeader, Unsupported, TooLarge, Truncated, ReadFault, WriteFault, NoMemory}
 use Rattle.std.specs.declared.result.Result.{Result}
 use Rattle.std.specs.declared.result.Result.TheVariants.{Ok, Err}
 
@@ -52,6 +52,7 @@ pub trouble_is : (s : Status) → (s ≡ Done → ⊥) → fault_line s ≡ trou
 trouble_is Done not_done = absurd (not_done refl)
 trouble_is (BadWords place) not_done = refl
 trouble_is (BadHeader fault) not_done = refl
+trouble_is (Unsupported key) not_done = refl
 trouble_is (TooLarge padded) not_done = refl
 trouble_is (Truncated got wanted) not_done = refl
 trouble_is ReadFault not_done = refl

@@ -2,9 +2,10 @@
 use Rattle.std.specs.Prelude.{◌≡◌, ℕ, ◌+◌, ◌<◌, ◌≤◌, ◌⊎◌, List, [], length, drop, Bool, true, false, IsTrue, Option, Some, None, Result, Ok, Err, ℤ, slice_index_or}
 use Rattle.definitions.specs.Values.{field_of}
 use Rattle.formats.specs.declared.Status.{Status}
-use Rattle.formats.specs.declared.Status.TheVariants.{Done, BadHeader, TooLarge, Truncated}
-use Rattle.formats.specs.declared.HeadFault.TheVariants.{NotPlain}
-use Rattle.formats.specs.PlainHead.{HeadAt, plain_head_of, head_taken, ends_in_head}
+use Rattle.formats.specs.declared.Status.TheVariants.{Done, TooLarge, Truncated}
+use Rattle.formats.specs.declared.HeadFault.{HeadFault}
+use Rattle.formats.specs.Faults.{status_of}
+use Rattle.formats.specs.Heads.{HeadAt, head_of, head_taken, ends_in_head}
 use Rattle.formats.specs.Volumes.{Volume, VolumeAnswer, Large, EndsEarly, Whole, volume_answer, wanted_bytes, first_limits}
 use Rattle.formats.specs.Words.{Reads, CountSigns}
 use Rattle.formats.specs.Texts.{sign_line}
@@ -24,17 +25,23 @@ outcome_of_volume text h (Large padded) = outcome (TooLarge padded) h.len false 
 outcome_of_volume text h (EndsEarly got wanted) = outcome (Truncated got wanted) (length text) true None
 outcome_of_volume text h (Whole v) = outcome Done (h.len + wanted_bytes h.head) false (Some v)
 
-abbrev pub outcome_of_head : List ℕ → Result HeadAt ℕ → Outcome
-outcome_of_head text (Err place) = outcome (BadHeader (NotPlain place)) (head_taken text) (ends_in_head text) None
-outcome_of_head text (Ok h) = outcome_of_volume text h (volume_answer first_limits text h)
+abbrev pub outcome_of_head : ℕ → List ℕ → Result HeadAt HeadFault → Outcome
+outcome_of_head step text (Err fault) = outcome (status_of fault) (head_taken text) (ends_in_head text) None
+outcome_of_head step text (Ok h) = outcome_of_volume text h (volume_answer first_limits text h step)
 
-unfoldable pub outcome_of : List ℕ → Outcome
-outcome_of text = outcome_of_head text (plain_head_of text)
+unfoldable pub outcome_of : ℕ → List ℕ → Outcome
+outcome_of step text = outcome_of_head step text (head_of text)
 
--- the line that is written for a volume at a level
-abbrev pub count_text : ℤ → Option Volume → List ℕ
-count_text twice None = []
-count_text twice (Some v) = sign_line (field_of v.dims v.samples twice false)
+-- What the words of `count` say besides the input: twice the level, whether the region lies below it, and each how many samples one is taken.
+pub record Settings : Type 0 where
+  pub twice : ℤ
+  pub below : Bool
+  pub step : ℕ
+
+-- the line that is written for a volume
+abbrev pub count_text : Settings → Option Volume → List ℕ
+count_text s None = []
+count_text s (Some v) = sign_line (field_of v.dims v.samples s.twice s.below)
 
 -- so many bytes of the text were read
 pub record IsLeft (text : List ℕ) (n : ℕ) (left : Option (List ℕ)) : Type 0 where
@@ -42,13 +49,13 @@ pub record IsLeft (text : List ℕ) (n : ℕ) (left : Option (List ℕ)) : Type 
   pub within : n ≤ length text
 
 -- A fault of reading comes before the last byte that is read, or where the end of the input decides.
-pub record BreaksOff (text : List ℕ) (left : Option (List ℕ)) : Type 0 where
+pub record BreaksOff (step : ℕ) (text : List ℕ) (left : Option (List ℕ)) : Type 0 where
   pub taken : ℕ
   pub is_left : IsLeft text taken left
-  pub early : (taken < (outcome_of text).taken) ⊎ ((taken ≡ length text) × IsTrue (outcome_of text).at_end)
+  pub early : (taken < (outcome_of step text).taken) ⊎ ((taken ≡ length text) × IsTrue (outcome_of step text).at_end)
 
--- the words name a level, and an input whose bytes are told
-pub record IsInput (words : List (List ℕ)) (held : List ℕ → Option (List ℕ)) (text : List ℕ) (twice : ℤ) : Type 0 where
+-- the words say these settings, and name an input whose bytes are told
+pub record IsInput (words : List (List ℕ)) (held : List ℕ → Option (List ℕ)) (text : List ℕ) (s : Settings) : Type 0 where
   pub input : ℕ
-  pub reads : Reads words (CountSigns input twice)
+  pub reads : Reads words (CountSigns input s.twice s.below s.step)
   pub told : held (slice_index_or words input []) ≡ Some text

@@ -17,7 +17,8 @@ fn header_status(fault: HeadFault) -> Status
     match fault {
         HeadFault::ReadFault => Status::ReadFault,
         HeadFault::NoMemory => Status::NoMemory,
-        HeadFault::NotPlain { .. } => Status::BadHeader { fault },
+        HeadFault::Unsupported { key } => Status::Unsupported { key },
+        _ => Status::BadHeader { fault },
     }
 }
 
@@ -33,9 +34,11 @@ fn volume_status(fault: VolFault) -> Status
 }
 
 /// The volume of the open input, or the status of why it is refused.
-pub fn read_input<D: Desk>(alloc: Global, desk: &mut D) -> Result<Volume, Status>
-    requires { (D.input desk.old).is_open ≡ true }
-    ensures told { (text : List ℕ) → (D.input desk.old).left ≡ Some text → ReadsInput result text (D.input desk.new).left }
+pub fn read_input<D: Desk>(alloc: Global, desk: &mut D, step: u32) -> Result<Volume, Status>
+    requires step { 1 ≤ step }
+    requires step_bound { step ≤ 64 }
+    requires is_open { (D.input desk.old).is_open ≡ true }
+    ensures told { (text : List ℕ) → (D.input desk.old).left ≡ Some text → ReadsInput result step text (D.input desk.new).left }
     ensures refusal { IfErr result IsRefusal }
     ensures fault { IsErrOf result Status.ReadFault → Rose (D.input desk.old).faults (D.input desk.new).faults }
     ensures none { result ≢ Err Status.ReadFault → (D.input desk.new).faults ≡ (D.input desk.old).faults }
@@ -48,16 +51,24 @@ pub fn read_input<D: Desk>(alloc: Global, desk: &mut D) -> Result<Volume, Status
         Ok(head) => head,
         Err(fault) => return Err(header_status(fault)),
     };
-    match read_volume(alloc, desk, &head, 1, &Limits::first()) {
+    match read_volume(alloc, desk, &head, step, &Limits::first()) {
         Ok(volume) => Ok(volume),
         Err(fault) => Err(volume_status(fault)),
     }
 }
 
-/// The field of the open input at a level, or the status of why the input is refused.
-pub fn read_field<D: Desk>(alloc: Global, desk: &mut D, level: Level) -> Result<Field, Status>
-    requires { (D.input desk.old).is_open ≡ true }
-    ensures told { (text : List ℕ) → (D.input desk.old).left ≡ Some text → ReadsField result level text (D.input desk.new).left }
+/// The field of the open input, or the status of why the input is refused.
+pub fn read_field<D: Desk>(
+    alloc: Global,
+    desk: &mut D,
+    level: Level,
+    below: bool,
+    step: u32,
+) -> Result<Field, Status>
+    requires step { 1 ≤ step }
+    requires step_bound { step ≤ 64 }
+    requires is_open { (D.input desk.old).is_open ≡ true }
+    ensures told { (text : List ℕ) → (D.input desk.old).left ≡ Some text → ReadsField result (record { twice = level; below = below; step = step }) text (D.input desk.new).left }
     ensures refusal { IfErr result IsRefusal }
     ensures fault { IsErrOf result Status.ReadFault → Rose (D.input desk.old).faults (D.input desk.new).faults }
     ensures none { result ≢ Err Status.ReadFault → (D.input desk.new).faults ≡ (D.input desk.old).faults }
@@ -66,11 +77,11 @@ pub fn read_field<D: Desk>(alloc: Global, desk: &mut D, level: Level) -> Result<
     ensures tried { D.tried desk.new ≡ D.tried desk.old }
     ensures held { (n : List ℕ) → D.held desk.new n ≡ D.held desk.old n }
 {
-    let volume = match read_input(alloc, desk) {
+    let volume = match read_input(alloc, desk, step) {
         Ok(volume) => volume,
         Err(status) => return Err(status),
     };
-    match Field::new(alloc, &volume, level, false) {
+    match Field::new(alloc, &volume, level, below) {
         Ok(field) => Ok(field),
         Err(NoMemory) => Err(Status::NoMemory),
     }

@@ -1,6 +1,6 @@
 use crate::stuff;
 use desk_mem::MemDesk;
-use st_base::{HeadFault, NoMemory, OpenGate, Port, Status, Words};
+use st_base::{NoMemory, OpenGate, Port, Status, Words};
 use std::alloc::{AllocError, Global};
 use std::test::Fail;
 
@@ -15,16 +15,52 @@ fn words_of(alloc: Global, texts: &[&str]) -> Result<Words, NoMemory> {
     Ok(words)
 }
 
-// The plain head of other sizes, and as many bytes of one value.
-fn volume(alloc: Global, sizes: &str, len: usize, value: u8) -> Result<Vec<u8>, AllocError> {
+// A volume of a type, of these sizes and with these bytes.
+fn volume(
+    alloc: Global,
+    element: &str,
+    sizes: &str,
+    samples: &[u8],
+) -> Result<Vec<u8>, AllocError> {
     let mut bytes = Vec::new(alloc);
-    bytes.extend_from_slice(
-        b"ObjectType = Image\nNDims = 3\nBinaryData = True\nBinaryDataByteOrderMSB = False\nCompressedData = False\nTransformMatrix = 1 0 0 0 1 0 0 0 1\nOffset = 0 0 0\nCenterOfRotation = 0 0 0\nAnatomicalOrientation = RAI\nElementSpacing = 1 1 1\nDimSize = ",
-    )?;
+    bytes.extend_from_slice(b"NDims = 3\nDimSize = ")?;
     bytes.extend_from_slice(sizes.as_bytes())?;
-    bytes.extend_from_slice(b"\nElementType = MET_UCHAR\nElementDataFile = LOCAL\n")?;
+    bytes.extend_from_slice(b"\nElementType = ")?;
+    bytes.extend_from_slice(element.as_bytes())?;
+    bytes.extend_from_slice(b"\nElementDataFile = LOCAL\n")?;
+    bytes.extend_from_slice(samples)?;
+    Ok(bytes)
+}
+
+// So many bytes of one value.
+fn same_bytes(alloc: Global, len: usize, value: u8) -> Result<Vec<u8>, AllocError> {
+    let mut bytes = Vec::new(alloc);
     for _ in 0..len {
         bytes.push(value)?;
+    }
+    Ok(bytes)
+}
+
+// A box of 32 samples of 200 in a volume of 64 of -1000 on each axis, two bytes each.
+fn box_of_shorts(alloc: Global, big: bool) -> Result<Vec<u8>, AllocError> {
+    let mut bytes = Vec::new(alloc);
+    bytes.extend_from_slice(b"NDims = 3\nDimSize = 64 64 64\nElementType = MET_SHORT\n")?;
+    bytes.extend_from_slice(if big {
+        b"ElementByteOrderMSB = True\n".as_slice()
+    } else {
+        b"".as_slice()
+    })?;
+    bytes.extend_from_slice(b"ElementDataFile = LOCAL\n")?;
+    for n in 0..262144u32 {
+        let inside = 16 <= n % 64
+            && n % 64 < 48
+            && 16 <= n / 64 % 64
+            && n / 64 % 64 < 48
+            && 16 <= n / 4096
+            && n / 4096 < 48;
+        let sample: [u8; 2] = if inside { [200, 0] } else { [24, 252] };
+        bytes.push(sample[if big { 1 } else { 0 }])?;
+        bytes.push(sample[if big { 0 } else { 1 }])?;
     }
     Ok(bytes)
 }
@@ -32,27 +68,264 @@ fn volume(alloc: Global, sizes: &str, len: usize, value: u8) -> Result<Vec<u8>, 
 #[test]
 fn counts_volumes(rt: HostRuntime) -> Result<(), Fail> {
     let alloc = rt.alloc();
-    for (sizes, len, value, level, line) in [
-        ("1 1 1", 1, 1, "level=0.5", "plus 1 zero 0 minus 34\n"),
-        ("1 1 1", 2, 1, "level=0.5", "plus 1 zero 0 minus 34\n"),
-        ("1 1 1", 1, 1, "level=1", "plus 0 zero 1 minus 34\n"),
-        ("2 1 1", 2, 1, "level=0.5", "plus 2 zero 0 minus 46\n"),
-        ("2 2 2", 8, 1, "level=0.5", "plus 9 zero 6 minus 76\n"),
+    let none = same_bytes(alloc, 4_032_504, 0)?;
+    for (element, sizes, samples, texts, line) in [
         (
+            "MET_UCHAR",
+            "1 1 1",
+            b"\x01".as_slice(),
+            ["count", "a", "level=0.5"].as_slice(),
+            "plus 1 zero 0 minus 34\n",
+        ),
+        (
+            "MET_UCHAR",
+            "1 1 1",
+            b"\x01\x01".as_slice(),
+            ["count", "a", "level=0.5"].as_slice(),
+            "plus 1 zero 0 minus 34\n",
+        ),
+        (
+            "MET_UCHAR",
+            "1 1 1",
+            b"\x01".as_slice(),
+            ["count", "a", "level=1"].as_slice(),
+            "plus 0 zero 1 minus 34\n",
+        ),
+        (
+            "MET_CHAR",
+            "1 1 1",
+            b"\xff".as_slice(),
+            ["count", "a", "level=-0.5", "below=yes"].as_slice(),
+            "plus 1 zero 0 minus 34\n",
+        ),
+        (
+            "MET_UCHAR",
+            "2 1 1",
+            b"\x01\x01".as_slice(),
+            ["count", "a", "level=0.5"].as_slice(),
+            "plus 2 zero 0 minus 46\n",
+        ),
+        (
+            "MET_UCHAR",
+            "3 1 1",
+            b"\x01\x00\x01".as_slice(),
+            ["count", "a", "step=2", "level=0.5"].as_slice(),
+            "plus 2 zero 0 minus 46\n",
+        ),
+        (
+            "MET_SHORT",
+            "2 1 1",
+            b"\x01\x00\xe0\xb1".as_slice(),
+            ["count", "a", "level=0.5"].as_slice(),
+            "plus 1 zero 0 minus 47\n",
+        ),
+        (
+            "MET_UCHAR",
+            "2 2 2",
+            b"\x01\x01\x01\x01\x01\x01\x01\x01".as_slice(),
+            ["count", "a", "level=0.5"].as_slice(),
+            "plus 9 zero 6 minus 76\n",
+        ),
+        (
+            "MET_CHAR",
+            "2 2 2",
+            b"\x02\x02\x02\x02\xfe\xfe\xfe\xfe".as_slice(),
+            ["count", "a", "level=0.5"].as_slice(),
+            "plus 4 zero 1 minus 86\n",
+        ),
+        (
+            "MET_UCHAR",
             "126 126 254",
-            4_032_504,
-            0,
-            "level=0.5",
+            none.as_slice(),
+            ["count", "a", "level=0.5"].as_slice(),
             "plus 0 zero 0 minus 8307199\n",
         ),
     ] {
-        let words = words_of(alloc, &["count", "a", level])?;
+        let words = words_of(alloc, texts)?;
         let mut desk = MemDesk::new(alloc);
-        desk.put_input(b"a", &volume(alloc, sizes, len, value)?)?;
+        desk.put_input(b"a", &volume(alloc, element, sizes, samples)?)?;
         let status = stuff(&rt, alloc, &words, &mut desk, &OpenGate);
         assert_eq!(rt; status, Status::Done, "at {sizes}");
         assert_eq!(rt; desk.text(Port::Report), line.as_bytes(), "at {sizes}");
         assert_eq!(rt; desk.text(Port::Trouble), b"".as_slice());
+    }
+    Ok(())
+}
+
+#[test]
+fn counts_in_both_byte_orders(rt: HostRuntime) -> Result<(), Fail> {
+    let alloc = rt.alloc();
+    let words = words_of(alloc, &["count", "a", "level=-300"])?;
+    for big in [false, true] {
+        let mut desk = MemDesk::new(alloc);
+        desk.put_input(b"a", &box_of_shorts(alloc, big)?)?;
+        let status = stuff(&rt, alloc, &words, &mut desk, &OpenGate);
+        assert_eq!(rt; status, Status::Done);
+        assert_eq!(rt;
+            desk.text(Port::Report),
+            b"plus 62559 zero 0 minus 499562\n".as_slice()
+        );
+    }
+    Ok(())
+}
+
+#[test]
+fn counts_behind_any_head(rt: HostRuntime) -> Result<(), Fail> {
+    let alloc = rt.alloc();
+    let words = words_of(alloc, &["count", "a", "level=0.5"])?;
+    for input in [
+        ONE,
+        b"Comment = x\r\nObjectType=Image\r\nNDims=3\r\nDimSize=1 1 1\r\n\r\nElementType=MET_UCHAR\r\nElementDataFile=LOCAL\r\n\x01".as_slice(),
+        b"ObjectType = Image\nNDims = 3\nNDims = 2\nDimSize = 1\t001 1\nElementType = MET_UCHAR\nElementDataFile = Local\n\x01".as_slice(),
+    ] {
+        let mut desk = MemDesk::new(alloc);
+        desk.put_input(b"a", input)?;
+        let status = stuff(&rt, alloc, &words, &mut desk, &OpenGate);
+        assert_eq!(rt; status, Status::Done);
+        assert_eq!(rt;
+            desk.text(Port::Report),
+            b"plus 1 zero 0 minus 34\n".as_slice()
+        );
+    }
+    Ok(())
+}
+
+#[test]
+fn refuses_heads(rt: HostRuntime) -> Result<(), Fail> {
+    let alloc = rt.alloc();
+    let words = words_of(alloc, &["count", "a", "level=0.5"])?;
+    for (head, status, line) in [
+        (
+            "ObjectType = Image\nhello\n",
+            3,
+            "stuff: bad header line at byte 19\n",
+        ),
+        ("= x\n", 3, "stuff: bad header line at byte 0\n"),
+        ("hello", 3, "stuff: header ends early\n"),
+        ("", 3, "stuff: header ends early\n"),
+        (
+            "NDims = 3\nDimSize = 1 1 1\nElementType = MET_UCHAR\nElementDataFile = LOCAL",
+            3,
+            "stuff: header ends early\n",
+        ),
+        (
+            "ElementDataFile = LOCAL\n",
+            3,
+            "stuff: header key missing: NDims\n",
+        ),
+        (
+            "NDims = 3\nElementDataFile = LOCAL\n",
+            3,
+            "stuff: header key missing: DimSize\n",
+        ),
+        (
+            "NDims = 3\nDimSize = 1 1 1\nElementDataFile = LOCAL\n",
+            3,
+            "stuff: header key missing: ElementType\n",
+        ),
+        (
+            "ObjectType =\nElementDataFile = LOCAL\n",
+            3,
+            "stuff: bad header value: ObjectType\n",
+        ),
+        (
+            "NDims = 0\nElementDataFile = LOCAL\n",
+            3,
+            "stuff: bad header value: NDims\n",
+        ),
+        (
+            "NDims = 3\nElementNumberOfChannels = x\nElementDataFile = LOCAL\n",
+            3,
+            "stuff: bad header value: ElementNumberOfChannels\n",
+        ),
+        (
+            "NDims = 3\nDimSize = 0 1 1\nElementDataFile = LOCAL\n",
+            3,
+            "stuff: bad header value: DimSize\n",
+        ),
+        (
+            "NDims = 3\nDimSize = 1 1\nElementDataFile = LOCAL\n",
+            3,
+            "stuff: bad header value: DimSize\n",
+        ),
+        (
+            "NDims = 3\nDimSize = 1000000000 1 1\nElementDataFile = LOCAL\n",
+            3,
+            "stuff: bad header value: DimSize\n",
+        ),
+        (
+            "NDims = 3\nDimSize = 1 1 1\nElementType =\nElementDataFile = LOCAL\n",
+            3,
+            "stuff: bad header value: ElementType\n",
+        ),
+        (
+            "NDims = 3\nDimSize = 1 1 1\nElementType = MET_UCHAR\nElementDataFile =\n",
+            3,
+            "stuff: bad header value: ElementDataFile\n",
+        ),
+        (
+            "ObjectType = Tube\nNDims = 2\nDimSize = 1 1\nElementType = MET_UCHAR\nElementDataFile = LOCAL\n",
+            4,
+            "stuff: unsupported: ObjectType\n",
+        ),
+        (
+            "NDims = 2\nDimSize = 1 1\nElementType = MET_UCHAR\nElementDataFile = LOCAL\n",
+            4,
+            "stuff: unsupported: NDims\n",
+        ),
+        (
+            "NDims = 3\nBinaryData = False\nDimSize = 1 1 1\nElementType = MET_UCHAR\nElementDataFile = LOCAL\n",
+            4,
+            "stuff: unsupported: BinaryData\n",
+        ),
+        (
+            "NDims = 3\nCompressedData = True\nDimSize = 1 1 1\nElementType = MET_UCHAR\nElementDataFile = LOCAL\n",
+            4,
+            "stuff: unsupported: CompressedData\n",
+        ),
+        (
+            "NDims = 3\nElementNumberOfChannels = 3\nDimSize = 1 1 1\nElementType = MET_UCHAR\nElementDataFile = LOCAL\n",
+            4,
+            "stuff: unsupported: ElementNumberOfChannels\n",
+        ),
+        (
+            "NDims = 3\nDimSize = 1 1 1\nElementType = MET_FLOAT\nElementDataFile = LOCAL\n",
+            4,
+            "stuff: unsupported: ElementType\n",
+        ),
+        (
+            "NDims = 3\nDimSize = 1 1 1\nElementType = MET_UCHAR\nElementDataFile = one.raw\n",
+            4,
+            "stuff: unsupported: ElementDataFile\n",
+        ),
+    ] {
+        let mut desk = MemDesk::new(alloc);
+        desk.put_input(b"a", head.as_bytes())?;
+        let ended = stuff(&rt, alloc, &words, &mut desk, &OpenGate);
+        assert_eq!(rt; ended.code(), status, "at {head}");
+        assert_eq!(rt; desk.text(Port::Report), b"".as_slice());
+        assert_eq!(rt; desk.text(Port::Trouble), line.as_bytes());
+    }
+    Ok(())
+}
+
+#[test]
+fn refuses_long_heads(rt: HostRuntime) -> Result<(), Fail> {
+    let alloc = rt.alloc();
+    let words = words_of(alloc, &["count", "a", "level=0.5"])?;
+    for (len, line) in [
+        (65_533, "stuff: header ends early\n"),
+        (65_534, "stuff: header too long\n"),
+        (65_535, "stuff: header too long\n"),
+    ] {
+        let mut input = Vec::new(alloc);
+        input.extend_from_slice(b"A=")?;
+        input.extend_from_slice(&same_bytes(alloc, len, b'x')?)?;
+        let mut desk = MemDesk::new(alloc);
+        desk.put_input(b"a", &input)?;
+        let ended = stuff(&rt, alloc, &words, &mut desk, &OpenGate);
+        assert_eq!(rt; ended.code(), 3);
+        assert_eq!(rt; desk.text(Port::Trouble), line.as_bytes());
     }
     Ok(())
 }
@@ -94,6 +367,21 @@ fn refuses_words(rt: HostRuntime) -> Result<(), Fail> {
             3,
             "stuff: bad words at 3\n",
         ),
+        (
+            ["count", "a", "below=yes", "step=65"].as_slice(),
+            3,
+            "stuff: bad words at 3\n",
+        ),
+        (
+            ["count", "a", "step=1", "below=no"].as_slice(),
+            3,
+            "stuff: bad words at 3\n",
+        ),
+        (
+            ["count", "a", "step=64", "below=yes"].as_slice(),
+            4,
+            "stuff: bad words at 4\n",
+        ),
     ] {
         let words = words_of(alloc, texts)?;
         let mut desk = MemDesk::new(alloc);
@@ -109,42 +397,44 @@ fn refuses_words(rt: HostRuntime) -> Result<(), Fail> {
 fn refuses_inputs(rt: HostRuntime) -> Result<(), Fail> {
     let alloc = rt.alloc();
     let words = words_of(alloc, &["count", "a", "level=0.5"])?;
-    for (sizes, len, status, line) in [
+    for (element, sizes, len, status, line) in [
         (
+            "MET_UCHAR",
             "1 1 1",
             0,
             Status::Truncated { got: 0, wanted: 1 },
             "stuff: truncated: 0 of 1 bytes\n",
         ),
         (
-            "2 1 1",
-            1,
-            Status::Truncated { got: 1, wanted: 2 },
-            "stuff: truncated: 1 of 2 bytes\n",
+            "MET_SHORT",
+            "64 64 64",
+            524_287,
+            Status::Truncated {
+                got: 524_287,
+                wanted: 524_288,
+            },
+            "stuff: truncated: 524287 of 524288 bytes\n",
         ),
         (
+            "MET_UCHAR",
             "126 126 255",
             0,
             Status::TooLarge { padded: 4_210_688 },
             "stuff: too large: 4210688\n",
         ),
         (
+            "MET_INT",
             "8193 1 1",
             0,
             Status::TooLarge { padded: 73_755 },
             "stuff: too large: 73755\n",
         ),
-        (
-            "1 0 1",
-            1,
-            Status::BadHeader {
-                fault: HeadFault::NotPlain { place: 228 },
-            },
-            "stuff: header not plain at byte 228\n",
-        ),
     ] {
         let mut desk = MemDesk::new(alloc);
-        desk.put_input(b"a", &volume(alloc, sizes, len, 1)?)?;
+        desk.put_input(
+            b"a",
+            &volume(alloc, element, sizes, &same_bytes(alloc, len, 1)?)?,
+        )?;
         assert_eq!(rt; stuff(&rt, alloc, &words, &mut desk, &OpenGate), status);
         assert_eq!(rt; desk.text(Port::Report), b"".as_slice());
         assert_eq!(rt; desk.text(Port::Trouble), line.as_bytes());

@@ -1,6 +1,6 @@
 ghost use Rattle.std.specs.Prelude.{◌≡◌, ◌≢◌, ◌+◌, ◌<◌, ◌≤◌, ◌^◌, ◌++◌, [], List, ℕ, length, decimal, true};
 ghost use Rattle.arrayvec.specs.ArrayVec.{array_vec_len};
-ghost use Rattle.formats.specs.Faults.{head_fault_text, port_text, status_text, trouble_text, fault_line as fault_line_lem};
+ghost use Rattle.formats.specs.Faults.{head_fault_text, key_text, port_text, status_text, trouble_text, fault_line as fault_line_lem};
 ghost use Rattle.formats.specs.declared.Port.{Port};
 ghost use Rattle.formats.specs.declared.Port.TheVariants.{Trouble};
 ghost use Rattle.formats.specs.declared.Status.TheVariants.{Done, Truncated};
@@ -10,7 +10,7 @@ ghost use Rattle.std.specs.Io.KnownBytes.{Appends};
 use crate::put::put_all;
 use arrayvec::ArrayVec;
 use itoa::Buffer;
-use st_base::{Desk, HeadFault, Port, Status};
+use st_base::{Desk, HeadFault, Key, Port, Status};
 
 /// The longest line has 69 bytes.
 const ROOM: usize = 96;
@@ -57,16 +57,48 @@ fn port_name(port: Port) -> &'static [u8]
     }
 }
 
+fn key_name(key: Key) -> &'static [u8]
+    ensures name { result.now ≡ key_text key }
+    ensures length { length result.now ≤ 23 }
+{
+    match key {
+        Key::ObjectType => b"ObjectType",
+        Key::NDims => b"NDims",
+        Key::BinaryData => b"BinaryData",
+        Key::ByteOrder => b"BinaryDataByteOrderMSB",
+        Key::CompressedData => b"CompressedData",
+        Key::Channels => b"ElementNumberOfChannels",
+        Key::DimSize => b"DimSize",
+        Key::ElementType => b"ElementType",
+        Key::DataFile => b"ElementDataFile",
+    }
+}
+
+// What is wrong with a key.
+fn add_key(line: &mut Line, wrong: &[u8], key: Key)
+    requires { length line.old.items + length wrong.now + 23 ≤ ROOM }
+    ensures text { line.new.items ≡ line.old.items ++ (wrong.now ++ key_text key) }
+    ensures length { length line.new.items ≤ length line.old.items + length wrong.now + 23 }
+{
+    add(line, wrong);
+    add(line, key_name(key));
+}
+
 fn add_header_fault(line: &mut Line, fault: HeadFault)
     requires { length line.old.items ≤ 7 }
     ensures text { line.new.items ≡ line.old.items ++ head_fault_text fault }
     ensures length { length line.new.items < ROOM }
 {
     match fault {
-        HeadFault::NotPlain { place } => {
-            add(line, b"header not plain at byte ");
+        HeadFault::BadLine { place } => {
+            add(line, b"bad header line at byte ");
             add_number(line, place);
         }
+        HeadFault::Missing { key } => add_key(line, b"header key missing: ", key),
+        HeadFault::BadValue { key } => add_key(line, b"bad header value: ", key),
+        HeadFault::Unsupported { key } => add_key(line, b"unsupported: ", key),
+        HeadFault::HeaderTooLong => add(line, b"header too long"),
+        HeadFault::HeadEnds => add(line, b"header ends early"),
         HeadFault::ReadFault => add(line, b"read fault"),
         HeadFault::NoMemory => add(line, b"no memory"),
     }
@@ -96,6 +128,7 @@ fn add_status(line: &mut Line, status: Status)
             add_number(line, place);
         }
         Status::BadHeader { fault } => add_header_fault(line, fault),
+        Status::Unsupported { key } => add_key(line, b"unsupported: ", key),
         Status::TooLarge { padded } => {
             add(line, b"too large: ");
             add_product(line, padded);

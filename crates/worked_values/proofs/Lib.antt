@@ -12,4 +12,4 @@ pub mod NoTetrahedra
 pub mod Unsound
 pub mod Layouts
 pub mod RandomFields
-pub mod PlainHeads
+pub mod Heads

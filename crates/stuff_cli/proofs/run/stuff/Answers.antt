@@ -48,7 +48,7 @@ returns-clause-breaks_off g c =
     c.tell.ensures.input (c.tell.ensures.others Report unlike) c.run-status.ensures.ends)
 
 pub returns-clause-tried : goal.returns-clause-tried
-returns-clause-tried g c = λ input twice r. rw c.tell.ensures.tried (c.run-status.ensures.tried input twice r)
+returns-clause-tried g c = λ input s r. rw c.tell.ensures.tried (c.run-status.ensures.tried input s r)
 
 pub returns-clause-all_tried : goal.returns-clause-all_tried
-returns-clause-all_tried g c = λ e input twice r. c.tell.ensures.tried ∙ c.run-status.ensures.all_tried e input twice r
+returns-clause-all_tried g c = λ e input s r. c.tell.ensures.tried ∙ c.run-status.ensures.all_tried e input s r

@@ -1,0 +1,65 @@
+-- Named words as they are read one after another.
+use Rattle.std.specs.Prelude.{◌≡◌, ℕ, ◌+◌, ◌<◌, ◌≤◌, Bool, true, ◌||◌, IsTrue, List, [], length, take, drop, count_by, Option, Some, None, option_map, if◌then◌else◌, find, slice_index_or, ℤ, pos}
+use Rattle.std.specs.List.{AllZip, list_all}
+use Rattle.std.specs.Option.{option_or}
+use Rattle.formats.specs.Words.{Name, Level, Below, Step, Setting, ReadsSetting, Verb, is_among, is_of, same_name, required, optional}
+use Rattle.command_words.specs.declared.settings.Setting.{Setting as Choice}
+use Rattle.command_words.specs.declared.settings.Setting.TheVariants.{Level as LevelWord, Below as BelowWord, Step as StepWord}
+use Rattle.command_words.specs.declared.settings.Seen.{Seen}
+
+-- what a named word sets
+abbrev pub setting_of : Choice → Setting
+setting_of (LevelWord twice) = record { name = Level; value = twice }
+setting_of BelowWord = record { name = Below; value = pos 1 }
+setting_of (StepWord n) = record { name = Step; value = pos n }
+
+-- what a name is set to by what was seen
+abbrev pub held : Seen → Name → Option ℤ
+held seen Level = seen.level
+held seen Below = if seen.below then Some (pos 1) else None
+held seen Step = option_map pos seen.step
+
+-- what a name is set to by one setting
+abbrev pub said : Setting → Name → Option ℤ
+said s n = if same_name n s.name then Some s.value else None
+
+-- what a name is set to by a list
+abbrev pub value_of : List Setting → Name → Option ℤ
+value_of settings n = option_map (λ (s : Setting). s.value) (find (is_of n) settings)
+
+-- whether a command has the name
+abbrev pub is_known : Verb → Name → Bool
+is_known v n = is_among (required v) n || is_among (optional v) n
+
+-- Named words that are read as settings of a command, each name at most once.
+pub record IsSettled (v : Verb) (named : List (List ℕ)) (settings : List Setting) : Type 0 where
+  pub named_are : AllZip ReadsSetting named settings
+  pub once : (n : Name) → count_by (is_of n) settings ≤ 1
+  pub known : IsTrue (list_all (λ s. is_known v s.name) settings)
+
+-- named words, of which this was seen
+pub record IsTaken (v : Verb) (named : List (List ℕ)) (seen : Seen) : Type 0 where
+  pub settings : List Setting
+  pub settled : IsSettled v named settings
+  pub held_are : (n : Name) → held seen n ≡ value_of settings n
+
+-- The word sets what was not set before, and this is seen then.
+pub record IsTakenAs (v : Verb) (seen : Seen) (word : List ℕ) (next : Seen) : Type 0 where
+  pub setting : Setting
+  pub word_reads : ReadsSetting word setting
+  pub known : is_known v setting.name ≡ true
+  pub first : held seen setting.name ≡ None
+  pub next_held : (n : Name) → held next n ≡ option_or (held seen n) (said setting n)
+
+-- a word that no command goes on with
+abbrev pub IsStuck : Verb → Seen → List ℕ → Type 0
+IsStuck v seen word = (s : Setting) → ReadsSetting word s → is_known v s.name ≡ true → held seen s.name ≡ None → ⊥
+
+-- The first word that is not taken, so many after the first of the named words.
+pub record IsStop (v : Verb) (words : List (List ℕ)) (start place : ℕ) : Type 0 where
+  pub taken : ℕ
+  pub seen : Seen
+  pub place_is : place ≡ start + taken
+  pub within : taken < length (drop start words)
+  pub before : IsTaken v (take taken (drop start words)) seen
+  pub stuck : IsStuck v seen (slice_index_or (drop start words) taken [])
