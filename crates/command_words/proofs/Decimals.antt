@@ -4,7 +4,7 @@ use Rattle.std.proofs.lemmas.Fmt.{decimal_is_IsNumeral, IsAscii-decimal, decimal
 use Rattle.std.proofs.lemmas.Str.{IsUtf8-from_ascii}
 use Rattle.std.specs.Str.{IsUtf8}
 use Rattle.std.specs.Str.Parse.{AllDigits}
-use Rattle.formats.specs.Words.{IsHalves, IsLevel}
+use Rattle.command_line.specs.Grammar.{IsHalves, IsLevel}
 use Rattle.command_words.proofs.TextEnds.{same_front, other_end}
 
 pub decimal_is_text : (n : ℕ) → n < 2 ^ 64 → IsUtf8 (decimal n)

@@ -4,7 +4,7 @@ use Rattle.std.specs.Prelude.{nat_eq, ◌==◌, find}
 use Rattle.std.specs.List.{AllZip, starts_with}
 use Rattle.std.proofs.lemmas.Bool.{eq-eqb, eqb-true}
 use Rattle.std.proofs.lemmas.Fmt.{decimal_injective, decimal_digit}
-use Rattle.formats.specs.Words.{Name, Level, Below, Step, Setting, ReadsSetting, Count, IsNumber, IsValue, name_number, same_name, name_text}
+use Rattle.command_line.specs.Grammar.{Name, Level, Below, Step, Setting, ReadsSetting, Count, IsNumber, IsValue, name_number, same_name, name_text}
 use Rattle.command_words.specs.declared.settings.Setting.{Setting as Choice}
 use Rattle.command_words.specs.Settings.{setting_of, is_known}
 use Rattle.command_words.proofs.Decimals.{level_once}

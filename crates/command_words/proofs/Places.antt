@@ -8,7 +8,7 @@ use Rattle.std.proofs.lemmas.Bool.Decides.{nat_tests}
 use Rattle.std.proofs.lemmas.List.{take-take, take-append-drop}
 use Rattle.std.proofs.lemmas.Slice.Eq.{bytes_eq-Decides}
 use Rattle.std.specs.List.{AllZip, list_all}
-use Rattle.formats.specs.Words.{Level, Below, Step, Setting, ReadsSetting, Verb, Count, IsComplete, Reads, Command, CountSigns, Begins, IsBadPlace, command_of, is_set, number_or, value_or, verb_text, file_count, required}
+use Rattle.command_line.specs.Grammar.{Level, Below, Step, Setting, ReadsSetting, Verb, Count, IsComplete, Reads, Command, CountSigns, Begins, IsBadPlace, command_of, is_set, number_or, value_or, verb_text, file_count, required}
 use Rattle.command_words.specs.declared.settings.Seen.{Seen}
 use Rattle.command_words.specs.Commands.{is_word, is_name}
 use Rattle.command_words.specs.Settings.{value_of, IsSettled, IsTaken, IsStuck, IsStop}

@@ -7,7 +7,7 @@ use Rattle.std.proofs.Math.Seq.{take-suc}
 use Rattle.std.proofs.lemmas.List.{get_or-drop, length-drop, take_all}
 use Rattle.std.proofs.lemmas.List.Sums.{sum_by-cons, sum_by-append}
 use Rattle.std.proofs.lemmas.List.Folds.{find-append, list_any-append, list_all-append}
-use Rattle.formats.specs.Words.{Name, Setting, ReadsSetting, Verb, Count, IsValue, is_of, is_set, same_name, name_text, required}
+use Rattle.command_line.specs.Grammar.{Name, Setting, ReadsSetting, Verb, Count, IsValue, is_of, is_set, same_name, name_text, required}
 use Rattle.command_words.specs.declared.settings.Seen.{Seen}
 use Rattle.command_words.specs.Settings.{held, said, value_of, is_known, IsSettled, IsTaken, IsTakenAs, IsStuck, IsStop}
 use Rattle.command_words.proofs.Names.{same_is, same_self, settings_once, sample_text, sample_value, sample_reads}

@@ -1,7 +1,7 @@
 -- What the code's commands mean by the grammar.
 use Rattle.std.specs.Prelude.{ℕ, ℤ, Bool, ◌&&◌, not, nat_lt, ◌==◌, List, [], length, slice_index_or}
 use Rattle.std.specs.Str.{bytes_eq}
-use Rattle.formats.specs.Words.{Command as Meaning, CountSigns}
+use Rattle.command_line.specs.Grammar.{Command as Meaning, CountSigns}
 use Rattle.command_words.specs.declared.command.Command.{Command}
 use Rattle.command_words.specs.declared.command.Command.TheVariants.{Count}
 

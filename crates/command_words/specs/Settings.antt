@@ -2,7 +2,7 @@
 use Rattle.std.specs.Prelude.{◌≡◌, ℕ, ◌+◌, ◌<◌, ◌≤◌, Bool, true, ◌||◌, IsTrue, List, [], length, take, drop, count_by, Option, Some, None, option_map, if◌then◌else◌, find, slice_index_or, ℤ, pos}
 use Rattle.std.specs.List.{AllZip, list_all}
 use Rattle.std.specs.Option.{option_or}
-use Rattle.formats.specs.Words.{Name, Level, Below, Step, Setting, ReadsSetting, Verb, is_among, is_of, same_name, required, optional}
+use Rattle.command_line.specs.Grammar.{Name, Level, Below, Step, Setting, ReadsSetting, Verb, is_among, is_of, same_name, required, optional}
 use Rattle.command_words.specs.declared.settings.Setting.{Setting as Choice}
 use Rattle.command_words.specs.declared.settings.Setting.TheVariants.{Level as LevelWord, Below as BelowWord, Step as StepWord}
 use Rattle.command_words.specs.declared.settings.Seen.{Seen}

@@ -1,5 +1,5 @@
 ghost use Rattle.std.specs.Prelude.{◌≡◌, ◌<◌, ◌≤◌, List, ℕ, length, IfOk, IfErr};
-ghost use Rattle.formats.specs.Words.{Reads, IsBadPlace, Command as Meaning};
+ghost use Rattle.command_line.specs.Grammar.{Reads, IsBadPlace, Command as Meaning};
 ghost use Rattle.command_words.specs.Commands.{is_word as is_word_lem, input_of, level_of, below_of, step_of, is_name as is_name_lem, meaning_of};
 
 use crate::settings::read_settings;

@@ -1,7 +1,7 @@
 ghost use Rattle.std.specs.Prelude.{◌≡◌, ◌<◌, ◌*◌, ◌+◌, ◌^◌, ℕ, ℤ, Some, IfSome, decimal, pos, neg_ℤ, option_map};
 ghost use Rattle.std.specs.Option.{ForSome};
 ghost use Rattle.std.specs.Str.{bytes_eq};
-ghost use Rattle.formats.specs.Words.{IsHalves, IsLevel};
+ghost use Rattle.command_line.specs.Grammar.{IsHalves, IsLevel};
 
 use crate::ends::{after_start, before_end};
 use itoa::Buffer;

@@ -1,6 +1,6 @@
 ghost use Rattle.std.specs.Prelude.{◌≡◌, ◌≢◌, ◌<◌, ◌≤◌, ℕ, ℤ, List, Option, Some, None, IfSome, IfNone, IfOk, IfErr, length, drop, pos, codes, decimal, option_map};
 ghost use Rattle.std.specs.Option.{option_or};
-ghost use Rattle.formats.specs.Words.{Name, Level as LevelName, Below as BelowName, Step as StepName, Setting as Meaning, ReadsSetting, IsValue, Count};
+ghost use Rattle.command_line.specs.Grammar.{Name, Level as LevelName, Below as BelowName, Step as StepName, Setting as Meaning, ReadsSetting, IsValue, Count};
 ghost use Rattle.command_words.specs.Settings.{setting_of, held, said, IsTakenAs, IsStuck, IsTaken, IsStop};
 
 use crate::ends::after_start;

@@ -2,7 +2,6 @@ pub mod Counts
 pub mod HeadLines
 pub mod Heads
 pub mod Volumes
-pub mod Words
 pub mod Samples
 pub mod Texts
 pub mod Faults

@@ -4,7 +4,7 @@ use Rattle.std.specs.Prelude.{slice_index_or}
 use Rattle.formats.specs.declared.Port.{Port}
 use Rattle.formats.specs.declared.Status.{Status}
 use Rattle.formats.specs.declared.Status.TheVariants.{Done, BadWords, BadHeader, Unsupported, TooLarge, Truncated, ReadFault, WriteFault, NoMemory}
-use Rattle.formats.specs.Words.{Reads, CountSigns, IsBadPlace}
+use Rattle.command_line.specs.Grammar.{Reads, CountSigns, IsBadPlace}
 use Rattle.st_base.specs.Desk.{InputState, PortState, IsTold, AppendsPart}
 use Rattle.command_words.specs.Commands.{meaning_of, input_of, level_of, below_of, step_of}
 use Rattle.command_words.specs.declared.Command.{Command}

@@ -6,7 +6,7 @@ use Rattle.formats.specs.declared.Status.{Status}
 use Rattle.formats.specs.declared.Status.TheVariants.{Done, BadWords, BadHeader, Unsupported, TooLarge, Truncated, ReadFault, WriteFault, NoMemory}
 use Rattle.formats.specs.declared.Port.TheVariants.{Report}
 use Rattle.formats.specs.Volumes.{Volume}
-use Rattle.formats.specs.Words.{Command, Reads, IsBadPlace}
+use Rattle.command_line.specs.Grammar.{Command, Reads, IsBadPlace}
 use Rattle.st_base.specs.Desk.{InputState, PortState, AppendsPart}
 use Rattle.stuff_cli.specs.Inputs.{Settings, outcome_of, count_text, IsLeft, BreaksOff}
 

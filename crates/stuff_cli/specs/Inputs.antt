@@ -7,7 +7,7 @@ use Rattle.formats.specs.declared.HeadFault.{HeadFault}
 use Rattle.formats.specs.Faults.{status_of}
 use Rattle.formats.specs.Heads.{HeadAt, head_of, head_taken, ends_in_head}
 use Rattle.formats.specs.Volumes.{Volume, VolumeAnswer, Large, EndsEarly, Whole, volume_answer, wanted_bytes, first_limits}
-use Rattle.formats.specs.Words.{Reads, CountSigns}
+use Rattle.command_line.specs.Grammar.{Reads, CountSigns}
 use Rattle.formats.specs.Texts.{sign_line}
 
 -- What an input comes to: a status, how many of its bytes are read, whether that is known only at its end, and the volume that it holds.

@@ -1,7 +1,7 @@
 ghost use Rattle.std.specs.Prelude.{◌≡◌, ◌≢◌, ◌⊎◌, ◌↔◌, ◌<◌, ◌≤◌, ℕ, List, [], false, true, slice_index_or};
 ghost use Rattle.std.specs.Io.KnownBytes.{Appends};
 ghost use Rattle.formats.specs.Faults.{trouble_text};
-ghost use Rattle.formats.specs.Words.{Reads, CountSigns, IsBadPlace};
+ghost use Rattle.command_line.specs.Grammar.{Reads, CountSigns, IsBadPlace};
 ghost use Rattle.formats.specs.declared.Port.{Port};
 ghost use Rattle.formats.specs.declared.Port.TheVariants.{Report, Trouble};
 ghost use Rattle.st_base.specs.Desk.{IsStart, IsFile, MayTry, with_name, AppendsPart};

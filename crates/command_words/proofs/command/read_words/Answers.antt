@@ -1,5 +1,5 @@
 use Rattle.std.proofs.Common.{ℕ, drop, sym, subst, arith}
-use Rattle.formats.specs.Words.{Reads, IsBadPlace, CountSigns}
+use Rattle.command_line.specs.Grammar.{Reads, IsBadPlace, CountSigns}
 use Rattle.command_words.proofs.Places.{no_verb, no_name, stop_place, no_level, reads_all, step_within}
 use Rattle.command_words.proofs.command.read_words.Goals as goal
 

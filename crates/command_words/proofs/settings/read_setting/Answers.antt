@@ -1,5 +1,5 @@
 use Rattle.std.proofs.Common.{option_map}
-use Rattle.formats.specs.Words.{Level, Below, Step}
+use Rattle.command_line.specs.Grammar.{Level, Below, Step}
 use Rattle.command_words.specs.Settings.{setting_of}
 use Rattle.command_words.proofs.Names.{reads_behind, found_behind}
 use Rattle.command_words.proofs.settings.read_setting.Goals as goal

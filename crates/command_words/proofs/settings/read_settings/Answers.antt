@@ -1,5 +1,5 @@
 use Rattle.std.proofs.Common.{arith, subst, List, ℕ}
-use Rattle.formats.specs.Words.{Count}
+use Rattle.command_line.specs.Grammar.{Count}
 use Rattle.command_words.specs.Settings.{IsTakenAs, IsStuck}
 use Rattle.command_words.proofs.Settled.{from_none, from_next, from_stop, from_all}
 use Rattle.command_words.proofs.settings.read_settings.Goals as goal

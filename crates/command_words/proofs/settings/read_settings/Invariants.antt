@@ -1,5 +1,5 @@
 use Rattle.std.proofs.Common.{◌-◌, take, drop}
-use Rattle.formats.specs.Words.{Count}
+use Rattle.command_line.specs.Grammar.{Count}
 use Rattle.command_words.specs.Settings.{IsTaken}
 use Rattle.command_words.proofs.settings.read_settings.Given as goal
 
