@@ -1,17 +1,22 @@
 -- The words of the command line, as a grammar of whole lists.
 use Rattle.std.specs.Prelude.{◌≡◌, ℕ, ◌+◌, ◌*◌, ◌^◌, ◌<◌, ◌≤◌, Bool, ◌||◌, ◌==◌, IsTrue, List, [], ◌∷◌, ◌++◌, length, take, count_by, codes, decimal, ◌⊎◌, option_map, find, unwrap_or, nat_lt, ℤ, pos, neg_ℤ, unsigned_abs}
 use Rattle.std.specs.List.{AllZip, list_any, list_all}
+use Rattle.definitions.specs.States.{Shares}
+use Rattle.command_line.specs.declared.Name.{Name}
+use Rattle.command_line.specs.declared.Name.TheVariants.{Level, Below, Step, Long, Short, Workers, Slab}
+use Rattle.command_line.specs.declared.Verb.{Verb}
+use Rattle.command_line.specs.declared.Verb.TheVariants.{Count, Mesh}
+use Rattle.command_line.specs.declared.Plan.{Plan}
 
--- the names of named words
-pub data Name : Type 0 where
-  Level : Name
-  Below : Name
-  Step : Name
-
+-- Names of named words are told apart by their numbers.
 abbrev pub name_number : Name → ℕ
 name_number Level = 0
 name_number Below = 1
 name_number Step = 2
+name_number Long = 3
+name_number Short = 4
+name_number Workers = 5
+name_number Slab = 6
 
 abbrev pub same_name : Name → Name → Bool
 same_name a b = name_number a == name_number b
@@ -20,6 +25,10 @@ abbrev pub name_text : Name → List ℕ
 name_text Level = codes "level="
 name_text Below = codes "below="
 name_text Step = codes "step="
+name_text Long = codes "long="
+name_text Short = codes "short="
+name_text Workers = codes "workers="
+name_text Slab = codes "slab="
 
 -- The text is a whole number from `low` to `high`, without a sign or a leading zero, and `value` is that number.
 abbrev pub IsNumber : ℕ → ℕ → List ℕ → ℤ → Type 0
@@ -40,6 +49,10 @@ abbrev pub IsValue : Name → List ℕ → ℤ → Type 0
 IsValue Level text value = IsLevel text value
 IsValue Below text value = (text ≡ codes "yes") × (value ≡ pos 1)
 IsValue Step text value = IsNumber 1 64 text value
+IsValue Long text value = IsNumber 0 1023 text value
+IsValue Short text value = IsNumber 0 2047 text value
+IsValue Workers text value = IsNumber 1 64 text value
+IsValue Slab text value = IsNumber 1 64 text value
 
 -- a named word, read
 pub record Setting : Type 0 where
@@ -51,23 +64,23 @@ pub record ReadsSetting (word : List ℕ) (s : Setting) : Type 0 where
   pub word_is : word ≡ name_text s.name ++ text
   pub value_is : IsValue s.name text s.value
 
--- the commands
-pub data Verb : Type 0 where
-  Count : Verb
-
 abbrev pub verb_text : Verb → List ℕ
 verb_text Count = codes "count"
+verb_text Mesh = codes "mesh"
 
 -- how many file names follow
 abbrev pub file_count : Verb → ℕ
 file_count Count = 1
+file_count Mesh = 2
 
 -- the names that must be there, and those that may
 abbrev pub required : Verb → List Name
 required Count = Level ∷ []
+required Mesh = Level ∷ []
 
 abbrev pub optional : Verb → List Name
 optional Count = Below ∷ Step ∷ []
+optional Mesh = Below ∷ Step ∷ Long ∷ Short ∷ Workers ∷ Slab ∷ []
 
 abbrev pub is_among : List Name → Name → Bool
 is_among names n = list_any (same_name n) names
@@ -91,12 +104,27 @@ value_or settings n default = unwrap_or (option_map (λ (s : Setting). s.value) 
 abbrev pub number_or : List Setting → Name → ℕ → ℕ
 number_or settings n default = unsigned_abs (value_or settings n (pos default))
 
+abbrev pub shares_of : List Setting → Shares
+shares_of settings = record { long = number_or settings Long 1023; short = number_or settings Short 1687 }
+
+abbrev pub plan_of : List Setting → Plan
+plan_of settings = record { workers = number_or settings Workers 4; slab = number_or settings Slab 4 }
+
+-- the limits of a plan
+pub record IsPlan (plan : Plan) : Type 0 where
+  pub some_workers : 1 ≤ plan.workers
+  pub most_workers : plan.workers ≤ 64
+  pub some_slab : 1 ≤ plan.slab
+  pub most_slab : plan.slab ≤ 64
+
 -- A command. File names are the numbers of their words, and a level is given as twice the level.
 pub data Command : Type 0 where
   CountSigns : (input : ℕ) (level : ℤ) (below : Bool) (step : ℕ) → Command
+  MakeMesh : (input output : ℕ) (level : ℤ) (below : Bool) (step : ℕ) (shares : Shares) (plan : Plan) → Command
 
 abbrev pub command_of : Verb → List Setting → Command
 command_of Count s = CountSigns 1 (value_or s Level (pos 0)) (is_set s Below) (number_or s Step 1)
+command_of Mesh s = MakeMesh 1 2 (value_or s Level (pos 0)) (is_set s Below) (number_or s Step 1) (shares_of s) (plan_of s)
 
 -- A list of words reads as a command: the verb, the file names, and named words in any order.
 pub record Reads (words : List (List ℕ)) (c : Command) : Type 0 where

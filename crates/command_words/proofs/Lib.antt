@@ -1,5 +1,5 @@
 pub mod Decimals
-pub mod Names
+pub mod NamedWords
 pub mod Places
 pub mod Settled
 pub mod TextEnds

@@ -1,261 +1,370 @@
 -- The commands of the grammar, and the places at which words are bad.
-use Rattle.std.proofs.Common.{◌≡◌, inl, inr, ℕ, ℤ, pos, ◌+◌, ◌<◌, ◌≤◌, suc, List, [], ◌∷◌, ◌++◌, length, take, drop, append_assoc, codes, Bool, true, false, Option, Some, None, refl, ap, sym, ◌∙◌, subst, arith, slice_index_or}
-use Rattle.std.specs.Prelude.{IsTrue, nat_lt, option_map, unwrap_or, unsigned_abs, is_some, if◌then◌else◌}
+use Rattle.std.proofs.Common.{◌≡◌, inl, inr, ℕ, ℤ, pos, ◌+◌, ◌-◌, ◌<◌, ◌≤◌, zero, suc, List, [], ◌∷◌, ◌++◌, length, take, drop, append_assoc, length-append, Bool, true, false, Option, Some, None, refl, ap, sym, ◌∙◌, subst, arith, slice_index_or, add-one}
+use Rattle.std.specs.Prelude.{IsTrue, nat_lt, option_map, unwrap_or, unsigned_abs, is_some, if◌then◌else◌, IfSome}
 use Rattle.std.specs.Str.{bytes_eq}
-use Rattle.std.proofs.Math.Seq.{take-suc, take-length}
+use Rattle.std.proofs.Math.Seq.{take-suc, take-length, take-append-add}
 use Rattle.std.proofs.lemmas.Bool.{cases_lt}
 use Rattle.std.proofs.lemmas.Bool.Decides.{nat_tests}
-use Rattle.std.proofs.lemmas.List.{take-take, take-append-drop}
+use Rattle.std.proofs.lemmas.List.{take-take, take-append-drop, drop_at, length-take-le, get_or_append_left, get_or-take}
+use Rattle.std.proofs.lemmas.List.Folds.{list_all-append}
 use Rattle.std.proofs.lemmas.Slice.Eq.{bytes_eq-Decides}
 use Rattle.std.specs.List.{AllZip, list_all}
-use Rattle.command_line.specs.Grammar.{Level, Below, Step, Setting, ReadsSetting, Verb, Count, IsComplete, Reads, Command, CountSigns, Begins, IsBadPlace, command_of, is_set, number_or, value_or, verb_text, file_count, required}
+use Rattle.command_line.specs.declared.Name.TheVariants.{Level, Below, Step, Long, Short, Workers, Slab}
+use Rattle.command_line.specs.declared.Verb.{Verb}
+use Rattle.command_line.specs.declared.Verb.TheVariants.{Count, Mesh}
+use Rattle.command_line.specs.Grammar.{Setting, ReadsSetting, IsComplete, Reads, Command, Begins, IsBadPlace, IsPlan, command_of, is_set, number_or, value_or, verb_text, file_count, required}
 use Rattle.command_words.specs.declared.settings.Seen.{Seen}
-use Rattle.command_words.specs.Commands.{is_word, is_name}
+use Rattle.command_words.specs.Commands.{is_word, is_name, HasVerb, AreNames, IsBadName, command_seen, meaning_of, step_of, mesh_of}
 use Rattle.command_words.specs.Settings.{value_of, IsSettled, IsTaken, IsStuck, IsStop}
-use Rattle.command_words.proofs.Names.{settings_once}
-use Rattle.command_words.proofs.Settled.{set_is, settled_none, filled, stuck_none, said_in, left_of}
+use Rattle.command_words.proofs.NamedWords.{settings_once}
+use Rattle.command_words.proofs.Settled.{set_is, settled_none, filled, stuck_none, number_between, left_of, right_of, both}
 
--- the shape of a list that reads
-pub record IsCount (words : List (List ℕ)) (c : Command) : Type 0 where
-  pub file : List ℕ
-  pub named : List (List ℕ)
-  pub settings : List Setting
-  pub words_are : words ≡ codes "count" ∷ file ∷ named
-  pub file_some : 0 < length file
-  pub settled : IsSettled Count named settings
-  pub level : is_set settings Level ≡ true
-  pub command_is : c ≡ command_of Count settings
+-- the first word
+other_text : (w : List ℕ) (text : List ℕ) → bytes_eq w text ≡ true → w ≡ text
+other_text w text h = (bytes_eq-Decides w text).0 h
+
+pub first_is : (ws : List (List ℕ)) (text : List ℕ) → is_word ws 0 text ≡ true → (rest : List (List ℕ)) × (ws ≡ text ∷ rest)
+first_is [] text h = let t : false ≡ true = grind (arith, nat_tests, h) in cc
+first_is (w ∷ ws) text h =
+    let t : bytes_eq w text ≡ true = grind (arith, nat_tests, h) in
+    (ws, ap (λ (u : List ℕ). u ∷ ws) (other_text w text t))
+
+-- commands are told apart by their words
+same_verb : (u v : Verb) → verb_text u ≡ verb_text v → u ≡ v
+same_verb Count Count e = refl
+same_verb Count Mesh e = cc
+same_verb Mesh Count e = cc
+same_verb Mesh Mesh e = refl
+
+head_is : (v w : List ℕ) (xs ys : List (List ℕ)) → v ∷ xs ≡ w ∷ ys → v ≡ w
+head_is v w xs ys e = cc
+
+tail_is : (v w : List ℕ) (xs ys : List (List ℕ)) → v ∷ xs ≡ w ∷ ys → xs ≡ ys
+tail_is v w xs ys e = cc
+
+verb_read : (v : Verb) (rest : List (List ℕ)) (c : Command) (r : Reads (verb_text v ∷ rest) c) → r.verb ≡ v
+verb_read v rest c r = sym (same_verb v r.verb (head_is (verb_text v) (verb_text r.verb) rest (r.files ++ r.named) r.words_are))
+
+-- Names of files: the word at a number is there, and is not empty.
+pub record IsFileName (words : List (List ℕ)) (n : ℕ) : Type 0 where
+  pub there : n < length words
+  pub some : 0 < length (slice_index_or words n [])
+
+file_name_is : (ws : List (List ℕ)) (n : ℕ) → is_name ws n ≡ true → IsFileName ws n
+file_name_is ws n h = record { there = grind (arith, nat_tests, h); some = grind (arith, nat_tests, h) }
+
+file_name_not : (ws : List (List ℕ)) (n : ℕ) → is_name ws n ≡ false → IsFileName ws n → ⊥
+file_name_not ws n h i =
+    let there : n < length ws = i.there in
+    let some : 0 < length (slice_index_or ws n []) = i.some in
+    let t : is_name ws n ≡ true = grind (arith, nat_tests, there, some) in
+    let f : true ≡ false = sym t ∙ h in
+    cc
 
 abbrev are_files : List (List ℕ) → Type 0
 are_files files = IsTrue (list_all (λ f. nat_lt 0 (length f)) files)
 
-one_file : (files : List (List ℕ)) → length files ≡ 1 → (f : List ℕ) × (files ≡ f ∷ [])
-one_file [] e = absurd (omega arith)
-one_file (f ∷ []) e = (f, refl)
-one_file (f ∷ g ∷ rest) e = absurd (omega arith)
+file_first : (f : List ℕ) (files : List (List ℕ)) → are_files (f ∷ files) → 0 < length f
+file_first f files h = let t : nat_lt 0 (length f) ≡ true = left_of (nat_lt 0 (length f)) (list_all (λ g. nat_lt 0 (length g)) files) h in grind (arith, nat_tests, t)
 
-file_is : (f : List ℕ) → are_files (f ∷ []) → 0 < length f
-file_is f h = grind (arith, nat_tests, h)
+files_rest : (f : List ℕ) (files : List (List ℕ)) → are_files (f ∷ files) → are_files files
+files_rest f files h = right_of (nat_lt 0 (length f)) (list_all (λ g. nat_lt 0 (length g)) files) h
 
-level_there : (ss : List Setting) → IsTrue (list_all (is_set ss) (required Count)) → is_set ss Level ≡ true
-level_there ss h = left_of (is_set ss Level) true h
+files_cons : (f : List ℕ) (files : List (List ℕ)) → 0 < length f → are_files files → are_files (f ∷ files)
+files_cons f files some h = both (nat_lt 0 (length f)) (list_all (λ g. nat_lt 0 (length g)) files) (grind (arith, nat_tests, some)) h
 
-shaped : (words : List (List ℕ)) (c : Command) (verb : Verb) (files named : List (List ℕ)) (settings : List Setting)
-    → words ≡ verb_text verb ∷ (files ++ named) → length files ≡ file_count verb → are_files files → AllZip ReadsSetting named settings → IsComplete verb settings → c ≡ command_of verb settings → IsCount words c
-shaped words c Count files named settings e len some zip complete is =
-    let f = one_file files len in
-    record {
-      file = f.0;
-      named = named;
-      settings = settings;
-      words_are = e ∙ (λ i. codes "count" ∷ (f.1 i ++ named));
-      file_some = file_is f.0 (subst (λ (fs : List (List ℕ)). are_files fs) f.1 some);
-      settled = record { named_are = zip; once = complete.once; known = complete.known };
-      level = level_there settings complete.there;
-      command_is = is;
-    }
+-- names of files that are there
+file_named : (files named : List (List ℕ)) (k : ℕ) → k < length files → are_files files → IsFileName (files ++ named) k
+file_named [] named k lt h = absurd (omega (arith, lt))
+file_named (f ∷ files) named zero lt h = record { there = omega arith; some = file_first f files h }
+file_named (f ∷ files) named (suc k) lt h =
+    let i = file_named files named k (omega (arith, lt)) (files_rest f files h) in
+    record { there = omega (arith, i.there); some = i.some }
 
-pub count_of : (words : List (List ℕ)) (c : Command) → Reads words c → IsCount words c
-count_of words c r = shaped words c r.verb r.files r.named r.settings r.words_are r.files_len r.files_named r.named_are r.complete r.command_is
+-- the words behind the first, as far as they can be names of files
+record IsFront (rest : List (List ℕ)) (count : ℕ) : Type 0 where
+  within : count ≤ length rest
+  files : are_files (take count rest)
 
-named_file : (f : List ℕ) → 0 < length f → are_files (f ∷ [])
-named_file f h = grind (arith, nat_tests, h)
+front_is : (rest : List (List ℕ)) (count : ℕ) → ((k : ℕ) → k < count → IsFileName rest k) → IsFront rest count
+front_is rest zero h = record { within = omega arith; files = refl }
+front_is [] (suc count) h = absurd (omega (arith, (h 0 (omega arith)).there))
+front_is (f ∷ rest) (suc count) h =
+    let i = front_is rest count (λ k lt. (let n = h (suc k) (omega arith) in record { there = omega (arith, n.there); some = n.some })) in
+    record { within = omega (arith, i.within); files = files_cons f (take count rest) (h 0 (omega arith)).some i.files }
 
-reads_whole : (file : List ℕ) (named : List (List ℕ)) (settings : List Setting) → 0 < length file → IsSettled Count named settings → list_all (is_set settings) (required Count) ≡ true → Reads (codes "count" ∷ file ∷ named) (command_of Count settings)
-reads_whole file named settings some settled there = record {
-  verb = Count;
-  files = file ∷ [];
+behind : (w : List ℕ) (rest : List (List ℕ)) (k : ℕ) → IsFileName (w ∷ rest) (suc k) → IsFileName rest k
+behind w rest k n = record { there = omega (arith, n.there); some = n.some }
+
+front_of : (w : List ℕ) (rest : List (List ℕ)) (count : ℕ) → AreNames (w ∷ rest) count → IsFront rest count
+front_of w rest count h = front_is rest count (λ k lt. behind w rest k (subst (λ (n : ℕ). IsFileName (w ∷ rest) n) (add-one k) (file_name_is (w ∷ rest) (k + 1) (h k lt))))
+
+-- the words of a command that reads, from a place among its file names on
+file_read : (v : Verb) (rest : List (List ℕ)) (c : Command) (k : ℕ) → Reads (verb_text v ∷ rest) c → k < file_count v → IsFileName rest k
+file_read v rest c k r lt =
+    let same : r.verb ≡ v = verb_read v rest c r in
+    let len : length r.files ≡ file_count v = r.files_len ∙ ap file_count same in
+    let tail : rest ≡ r.files ++ r.named = tail_is (verb_text v) (verb_text r.verb) rest (r.files ++ r.named) r.words_are in
+    subst (λ (u : List (List ℕ)). IsFileName u k) (sym tail) (file_named r.files r.named k (omega (arith, lt, len)) r.files_named)
+
+-- what a list reads as behind its file names
+pub record IsReadAs (v : Verb) (named : List (List ℕ)) (c : Command) : Type 0 where
+  pub settings : List Setting
+  pub settled : IsSettled v named settings
+  pub there : list_all (is_set settings) (required v) ≡ true
+  pub command_is : c ≡ command_of v settings
+
+read_as : (u v : Verb) (named : List (List ℕ)) (settings : List Setting) (c : Command) → u ≡ v → AllZip ReadsSetting named settings → IsComplete u settings → c ≡ command_of u settings → IsReadAs v named c
+read_as u v named settings c same zip complete is =
+    subst (λ (w : Verb). IsReadAs w named c) same
+    (record { settings = settings; settled = record { named_are = zip; once = complete.once; known = complete.known }; there = complete.there; command_is = is })
+
+same_rest : (files named fs ns : List (List ℕ)) → length files ≡ length fs → files ++ named ≡ fs ++ ns → named ≡ ns
+same_rest files named fs ns len e =
+    sym (drop_at files named (length files) refl) ∙ ap (λ (u : List (List ℕ)). drop (length files) u) e ∙ drop_at fs ns (length files) (sym len)
+
+pub reads_as : (v : Verb) (files named : List (List ℕ)) (c : Command) → length files ≡ file_count v → Reads (verb_text v ∷ (files ++ named)) c → IsReadAs v named c
+reads_as v files named c len r =
+    let same : r.verb ≡ v = verb_read v (files ++ named) c r in
+    let tail : files ++ named ≡ r.files ++ r.named = tail_is (verb_text v) (verb_text r.verb) (files ++ named) (r.files ++ r.named) r.words_are in
+    let lens : length files ≡ length r.files = len ∙ sym (r.files_len ∙ ap file_count same) in
+    let rest : r.named ≡ named = sym (same_rest files named r.files r.named lens tail) in
+    read_as r.verb v named r.settings c same (subst (λ (u : List (List ℕ)). AllZip ReadsSetting u r.settings) rest r.named_are) r.complete r.command_is
+
+reads_whole : (v : Verb) (files named : List (List ℕ)) (settings : List Setting) → length files ≡ file_count v → are_files files → IsSettled v named settings → list_all (is_set settings) (required v) ≡ true → Reads (verb_text v ∷ (files ++ named)) (command_of v settings)
+reads_whole v files named settings len some settled there = record {
+  verb = v;
+  files = files;
   named = named;
   settings = settings;
   words_are = refl;
-  files_len = refl;
-  files_named = named_file file some;
+  files_len = len;
+  files_named = some;
   named_are = settled.named_are;
   complete = record { once = settled.once; known = settled.known; there = there };
   command_is = refl;
 }
 
 -- words with which a command begins
-begins_named : (file : List ℕ) (named : List (List ℕ)) (settings : List Setting) → 0 < length file → IsSettled Count named settings → Begins (codes "count" ∷ file ∷ named)
-begins_named file named settings some settled =
-    let f = filled Count named settings settled in
-    (f.rest, command_of Count f.settings, reads_whole file (named ++ f.rest) f.settings some f.settled f.there)
+begins_prefix : (w : List ℕ) (xs ys : List (List ℕ)) → Begins (w ∷ (xs ++ ys)) → Begins (w ∷ xs)
+begins_prefix w xs ys b = (ys ++ b.0, b.1, subst (λ (u : List (List ℕ)). Reads (w ∷ u) b.1) (append_assoc xs ys b.0) b.2)
+
+begins_named : (v : Verb) (files named : List (List ℕ)) (settings : List Setting) → length files ≡ file_count v → are_files files → IsSettled v named settings → Begins (verb_text v ∷ (files ++ named))
+begins_named v files named settings len some settled =
+    let f = filled v named settings settled in
+    let whole : Reads (verb_text v ∷ (files ++ (named ++ f.rest))) (command_of v f.settings) = reads_whole v files (named ++ f.rest) f.settings len some f.settled f.there in
+    (f.rest, command_of v f.settings, subst (λ (u : List (List ℕ)). Reads (verb_text v ∷ u) (command_of v f.settings)) (sym (append_assoc files named f.rest)) whole)
 
 abbrev a_file : List ℕ
 a_file = 97 ∷ []
 
-begins_file : Begins (codes "count" ∷ a_file ∷ [])
-begins_file = begins_named a_file [] [] (omega arith) (settled_none Count)
-
-begins_verb : Begins (codes "count" ∷ [])
-begins_verb = (a_file ∷ begins_file.0, begins_file.1, begins_file.2)
+begins_files : (v : Verb) (missing : ℕ) (files : List (List ℕ)) → length files + missing ≡ file_count v → are_files files → Begins (verb_text v ∷ files)
+begins_files v zero files len some = begins_prefix (verb_text v) files [] (begins_named v files [] [] (omega (arith, len)) some (settled_none v))
+begins_files v (suc missing) files len some =
+    begins_prefix (verb_text v) files (a_file ∷ [])
+    (begins_files v missing (files ++ a_file ∷ []) (omega (arith, len, length-append files (a_file ∷ []))) (list_all-append (λ f. nat_lt 0 (length f)) files (a_file ∷ []) ∙ both (list_all (λ f. nat_lt 0 (length f)) files) true some refl))
 
 begins_none : Begins []
-begins_none = (codes "count" ∷ begins_verb.0, begins_verb.1, begins_verb.2)
+begins_none = let b = begins_files Count 1 [] refl refl in (verb_text Count ∷ b.0, b.1, b.2)
 
-other_text : (w : List ℕ) (text : List ℕ) → bytes_eq w text ≡ false → w ≡ text → ⊥
-other_text w text f e = let t : bytes_eq w text ≡ true = (bytes_eq-Decides w text).1 e in cc
+-- words that do not begin with a command's word
+pub no_verb : (ws : List (List ℕ)) → ((v : Verb) → HasVerb ws v → ⊥) → IsBadPlace ws 0
+no_verb ws none = record {
+  unread = λ c r. none r.verb (r.files ++ r.named, r.words_are);
+  within = omega arith;
+  begins = begins_none;
+  ends = not_first ws none;
+}
+  where
+    not_first : (ws : List (List ℕ)) → ((v : Verb) → HasVerb ws v → ⊥) → 0 < length ws → Begins (take (0 + 1) ws) → ⊥
+    not_first [] none lt on = absurd (omega (arith, lt))
+    not_first (w ∷ ws) none lt on =
+        let r = on.2 in
+        none r.verb (ws, ap (λ (u : List ℕ). u ∷ ws) (head_is w (verb_text r.verb) on.0 (r.files ++ r.named) r.words_are))
 
--- words that do not begin with the verb
-pub no_verb : (ws : List (List ℕ)) → is_word ws 0 (codes "count") ≡ false → IsBadPlace ws 0
-no_verb [] h = record { unread = λ c r. (let s = count_of [] c r in cc s.words_are); within = omega arith; begins = begins_none; ends = λ lt on. absurd (omega arith) }
-no_verb (w ∷ ws) h =
-    let other : bytes_eq w (codes "count") ≡ false = grind (arith, nat_tests, h) in
+-- words of which one cannot be a file's name
+unnamed_place : (v : Verb) (rest : List (List ℕ)) (n : ℕ) → n < file_count v → IsFront rest n → (IsFileName rest n → ⊥) → IsBadPlace (verb_text v ∷ rest) (suc n)
+unnamed_place v rest n lt front unnamed = record {
+  unread = λ c r. unnamed (file_read v rest c n r lt);
+  within = omega (arith, front.within);
+  begins = begins_files v (file_count v - n) (take n rest) (omega (arith, length-take-le n rest front.within, lt)) front.files;
+  ends = λ less on.
+      let e : suc n + 1 ≡ suc (suc n) = omega arith in
+      let next : Begins (take (suc (suc n)) (verb_text v ∷ rest)) = subst (λ (m : ℕ). Begins (take m (verb_text v ∷ rest))) e on in
+      let i = file_read v (take (suc n) rest ++ next.0) next.1 n next.2 lt in
+      let within : n < length rest = omega (arith, less) in
+      let short : n < length (take (suc n) rest) = omega (arith, length-take-le (suc n) rest (omega (arith, within))) in
+      let at : slice_index_or (take (suc n) rest ++ next.0) n [] ≡ slice_index_or rest n [] = get_or_append_left (take (suc n) rest) next.0 [] n short ∙ get_or-take (suc n) rest n [] (omega arith) in
+      unnamed (record { there = within; some = subst (λ (f : List ℕ). 0 < length f) at i.some });
+}
+
+pub bad_name_place : (ws : List (List ℕ)) (v : Verb) (place : ℕ) → HasVerb ws v → IsBadName ws (file_count v) place → IsBadPlace ws place
+bad_name_place ws v place verb bad = subst (λ (u : List (List ℕ)). IsBadName u (file_count v) place → IsBadPlace u place) (sym verb.1) (λ b. behind_verb verb.0 b) bad
+  where
+    behind_verb : (rest : List (List ℕ)) → IsBadName (verb_text v ∷ rest) (file_count v) place → IsBadPlace (verb_text v ∷ rest) place
+    behind_verb rest b =
+        let e : suc b.names ≡ place = omega (arith, b.place_is) in
+        subst (λ (n : ℕ). IsBadPlace (verb_text v ∷ rest) n) e
+        (unnamed_place v rest b.names b.within (front_of (verb_text v) rest b.names b.before)
+        (λ i. file_name_not (verb_text v ∷ rest) (b.names + 1) b.bad (subst (λ (n : ℕ). IsFileName (verb_text v ∷ rest) n) (sym (add-one b.names)) (record { there = omega (arith, i.there); some = i.some }))))
+
+-- a command's word and all its file names, and what follows them
+pub record IsOpened (v : Verb) (ws : List (List ℕ)) : Type 0 where
+  pub files : List (List ℕ)
+  pub named : List (List ℕ)
+  pub words_are : ws ≡ verb_text v ∷ (files ++ named)
+  pub files_len : length files ≡ file_count v
+  pub files_named : IsTrue (list_all (λ f. nat_lt 0 (length f)) files)
+
+pub opened : (ws : List (List ℕ)) (v : Verb) → HasVerb ws v → AreNames ws (file_count v) → IsOpened v ws
+opened ws v verb names =
+    let front = front_of (verb_text v) verb.0 (file_count v) (subst (λ (u : List (List ℕ)). AreNames u (file_count v)) verb.1 names) in
     record {
-      unread = λ c r. (let s = count_of (w ∷ ws) c r in other_text w (codes "count") other (let e : w ∷ ws ≡ codes "count" ∷ s.file ∷ s.named = s.words_are in cc));
-      within = omega arith;
-      begins = begins_none;
-      ends = λ lt on. (let s = count_of (w ∷ on.0) on.1 on.2 in other_text w (codes "count") other (let e : w ∷ on.0 ≡ codes "count" ∷ s.file ∷ s.named = s.words_are in cc));
+      files = take (file_count v) verb.0;
+      named = drop (file_count v) verb.0;
+      words_are = verb.1 ∙ ap (λ (u : List (List ℕ)). verb_text v ∷ u) (sym (take-append-drop (file_count v) verb.0));
+      files_len = length-take-le (file_count v) verb.0 front.within;
+      files_named = front.files;
     }
 
--- a list whose first word is the verb, and perhaps a second that is a name
-verb_is : (w : List ℕ) (ws : List (List ℕ)) → is_word (w ∷ ws) 0 (codes "count") ≡ true → w ≡ codes "count"
-verb_is w ws h =
-    let t : bytes_eq w (codes "count") ≡ true = grind (arith, nat_tests, h) in
-    (bytes_eq-Decides w (codes "count")).0 t
-
-name_is : (w f : List ℕ) (ws : List (List ℕ)) → is_name (w ∷ f ∷ ws) 1 ≡ true → 0 < length f
-name_is w f ws h = grind (arith, nat_tests, h)
-
-name_is_not : (w f : List ℕ) (ws : List (List ℕ)) → is_name (w ∷ f ∷ ws) 1 ≡ false → length f ≡ 0
-name_is_not w f ws h = grind (arith, nat_tests, h)
-
-empty_name : (w f : List ℕ) (ws : List (List ℕ)) (c : Command) → length f ≡ 0 → Reads (w ∷ f ∷ ws) c → ⊥
-empty_name w f ws c empty r =
-    let s = count_of (w ∷ f ∷ ws) c r in
-    let t : w ∷ f ∷ ws ≡ codes "count" ∷ s.file ∷ s.named = s.words_are in
-    let same : f ≡ s.file = cc in
-    absurd (omega (arith, empty, ap length same, s.file_some))
-
-pub no_name : (ws : List (List ℕ)) → is_word ws 0 (codes "count") ≡ true → is_name ws 1 ≡ false → IsBadPlace ws 1
-no_name [] h k = let t : false ≡ true = grind (arith, nat_tests, h) in cc
-no_name (w ∷ []) h k =
-    let e : w ≡ codes "count" = verb_is w [] h in
-    record {
-      unread = λ c r. (let s = count_of (w ∷ []) c r in let e : w ∷ [] ≡ codes "count" ∷ s.file ∷ s.named = s.words_are in cc);
-      within = omega arith;
-      begins = subst (λ (v : List ℕ). Begins (v ∷ [])) (sym e) begins_verb;
-      ends = λ lt on. absurd (omega arith);
-    }
-no_name (w ∷ f ∷ ws) h k =
-    let e : w ≡ codes "count" = verb_is w (f ∷ ws) h in
-    let empty : length f ≡ 0 = name_is_not w f ws k in
-    record {
-      unread = λ c r. empty_name w f ws c empty r;
-      within = omega arith;
-      begins = subst (λ (v : List ℕ). Begins (v ∷ [])) (sym e) begins_verb;
-      ends = λ lt on. empty_name w f on.0 on.1 empty on.2;
-    }
-
--- words of which one is not taken
-begins_with : (w f : List ℕ) (named : List (List ℕ)) (settings : List Setting) → w ≡ codes "count" → 0 < length f → IsSettled Count named settings → Begins (w ∷ f ∷ named)
-begins_with w f named settings e some settled = subst (λ (v : List ℕ). Begins (v ∷ f ∷ named)) (sym e) (begins_named f named settings some settled)
-
-named_settled : (w f : List ℕ) (named : List (List ℕ)) (c : Command) (s : IsCount (w ∷ f ∷ named) c) → IsSettled Count named s.settings
-named_settled w f named c s =
-    let t : w ∷ f ∷ named ≡ codes "count" ∷ s.file ∷ s.named = s.words_are in
-    let same : s.named ≡ named = cc in
-    subst (λ (u : List (List ℕ)). IsSettled Count u s.settings) same s.settled
-
-stuck_reads : (w f : List ℕ) (front : List (List ℕ)) (x : List ℕ) (back : List (List ℕ)) (seen : Seen) (c : Command) → IsTaken Count front seen → IsStuck Count seen x → Reads (w ∷ f ∷ (front ++ x ∷ back)) c → ⊥
-stuck_reads w f front x back seen c t stuck r =
-    let s = count_of (w ∷ f ∷ (front ++ x ∷ back)) c r in
-    stuck_none Count front x back seen s.settings t stuck (named_settled w f (front ++ x ∷ back) c s)
+named_from : (v : Verb) (ws : List (List ℕ)) (o : IsOpened v ws) → drop (file_count v + 1) ws ≡ o.named
+named_from v ws o =
+    let e : drop (suc (file_count v)) (verb_text v ∷ (o.files ++ o.named)) ≡ o.named = drop_at o.files o.named (file_count v) o.files_len in
+    ap (λ (u : List (List ℕ)). drop (file_count v + 1) u) o.words_are ∙ ap (λ (n : ℕ). drop n (verb_text v ∷ (o.files ++ o.named))) (add-one (file_count v)) ∙ e
 
 -- the list up to a place, the item at it, and what follows
 parted : (ws : List (List ℕ)) (k : ℕ) → k < length ws → take k ws ++ (slice_index_or ws k [] ∷ drop (suc k) ws) ≡ ws
 parted ws k lt =
     sym (append_assoc (take k ws) (slice_index_or ws k [] ∷ []) (drop (suc k) ws)) ∙ ap (λ (u : List (List ℕ)). u ++ drop (suc k) ws) (sym (take-suc ws k [] lt)) ∙ take-append-drop (suc k) ws
 
-pub stop_place : (ws : List (List ℕ)) (place : ℕ) → is_word ws 0 (codes "count") ≡ true → is_name ws 1 ≡ true → IsStop Count ws 2 place → IsBadPlace ws place
-stop_place [] place h k stop = let t : false ≡ true = grind (arith, nat_tests, h) in cc
-stop_place (w ∷ []) place h k stop = let t : false ≡ true = grind (arith, nat_tests, k) in cc
-stop_place (w ∷ f ∷ rest) place h k stop =
-    let e : w ≡ codes "count" = verb_is w (f ∷ rest) h in
-    let p : suc (suc stop.taken) ≡ place = omega (arith, stop.place_is) in
-    subst (λ (n : ℕ). IsBadPlace (w ∷ f ∷ rest) n) p (stopped w f rest stop.taken stop.seen e (name_is w f rest k) stop.within stop.before stop.stuck)
-  where
-    stopped : (w f : List ℕ) (rest : List (List ℕ)) (k : ℕ) (seen : Seen) → w ≡ codes "count" → 0 < length f → k < length rest → IsTaken Count (take k rest) seen → IsStuck Count seen (slice_index_or rest k []) → IsBadPlace (w ∷ f ∷ rest) (suc (suc k))
-    stopped w f rest k seen e some lt t stuck = record {
-      unread = λ c r. stuck_reads w f (take k rest) (slice_index_or rest k []) (drop (suc k) rest) seen c t stuck (subst (λ (u : List (List ℕ)). Reads (w ∷ f ∷ u) c) (sym (parted rest k lt)) r);
-      within = omega (arith, lt);
-      begins = begins_with w f (take k rest) t.settings e some t.settled;
-      ends = λ less on.
-          let n : suc (suc k) + 1 ≡ suc (suc (suc k)) = omega arith in
-          let next : Begins (take (suc (suc (suc k))) (w ∷ f ∷ rest)) = subst (λ (m : ℕ). Begins (take m (w ∷ f ∷ rest))) n on in
-          let g : take (suc k) rest ++ next.0 ≡ take k rest ++ (slice_index_or rest k [] ∷ next.0) = ap (λ (u : List (List ℕ)). u ++ next.0) (take-suc rest k [] lt) ∙ append_assoc (take k rest) (slice_index_or rest k [] ∷ []) next.0 in
-          stuck_reads w f (take k rest) (slice_index_or rest k []) next.0 seen next.1 t stuck (subst (λ (u : List (List ℕ)). Reads (w ∷ f ∷ u) next.1) g next.2);
-    }
+-- words of which one named word is not taken
+stuck_reads : (v : Verb) (files front : List (List ℕ)) (x : List ℕ) (back : List (List ℕ)) (seen : Seen) (c : Command) → length files ≡ file_count v → IsTaken v front seen → IsStuck v seen x → Reads (verb_text v ∷ (files ++ (front ++ x ∷ back))) c → ⊥
+stuck_reads v files front x back seen c len t stuck r =
+    let s = reads_as v files (front ++ x ∷ back) c len r in
+    stuck_none v front x back seen s.settings t stuck s.settled
+
+stopped : (v : Verb) (files named : List (List ℕ)) (k : ℕ) (seen : Seen) → length files ≡ file_count v → are_files files → k < length named → IsTaken v (take k named) seen → IsStuck v seen (slice_index_or named k []) → IsBadPlace (verb_text v ∷ (files ++ named)) (suc (length files + k))
+stopped v files named k seen len some lt t stuck = record {
+  unread = λ c r. stuck_reads v files (take k named) (slice_index_or named k []) (drop (suc k) named) seen c len t stuck (subst (λ (u : List (List ℕ)). Reads (verb_text v ∷ (files ++ u)) c) (sym (parted named k lt)) r);
+  within = omega (arith, lt, length-append files named);
+  begins = subst (λ (u : List (List ℕ)). Begins (verb_text v ∷ u)) (sym (take-append-add files named k)) (begins_named v files (take k named) t.settings len some t.settled);
+  ends = λ less on.
+      let e : suc (length files + k) + 1 ≡ suc (length files + suc k) = omega arith in
+      let next : Begins (take (suc (length files + suc k)) (verb_text v ∷ (files ++ named))) = subst (λ (m : ℕ). Begins (take m (verb_text v ∷ (files ++ named)))) e on in
+      let g : take (length files + suc k) (files ++ named) ++ next.0 ≡ files ++ (take k named ++ (slice_index_or named k [] ∷ next.0)) =
+      ap (λ (u : List (List ℕ)). u ++ next.0) (take-append-add files named (suc k) ∙ ap (λ (u : List (List ℕ)). files ++ u) (take-suc named k [] lt)) ∙ append_assoc files (take k named ++ slice_index_or named k [] ∷ []) next.0 ∙ ap (λ (u : List (List ℕ)). files ++ u) (append_assoc (take k named) (slice_index_or named k [] ∷ []) next.0) in
+      stuck_reads v files (take k named) (slice_index_or named k []) next.0 seen next.1 len t stuck (subst (λ (u : List (List ℕ)). Reads (verb_text v ∷ u) next.1) g next.2);
+}
+
+pub stop_place : (ws : List (List ℕ)) (v : Verb) (place : ℕ) → IsOpened v ws → IsStop v ws (file_count v + 1) place → IsBadPlace ws place
+stop_place ws v place o stop =
+    let from : drop (file_count v + 1) ws ≡ o.named = named_from v ws o in
+    let p : suc (length o.files + stop.taken) ≡ place = omega (arith, stop.place_is, o.files_len) in
+    subst (λ (n : ℕ). IsBadPlace ws n) p
+    (subst (λ (u : List (List ℕ)). IsBadPlace u (suc (length o.files + stop.taken))) (sym o.words_are)
+    (stopped v o.files o.named stop.taken stop.seen o.files_len o.files_named
+    (subst (λ (u : List (List ℕ)). stop.taken < length u) from stop.within)
+    (subst (λ (u : List (List ℕ)). IsTaken v (take stop.taken u) stop.seen) from stop.before)
+    (subst (λ (u : List (List ℕ)). IsStuck v stop.seen (slice_index_or u stop.taken [])) from stop.stuck)))
 
 -- words that are all taken
-level_missing : (named : List (List ℕ)) (seen : Seen) (ss : List Setting) → IsTaken Count named seen → seen.level ≡ None → IsSettled Count named ss → is_set ss Level ≡ true → ⊥
-level_missing named seen ss t none settled there =
+level_required : (v : Verb) (ss : List Setting) → list_all (is_set ss) (required v) ≡ true → is_set ss Level ≡ true
+level_required Count ss h = left_of (is_set ss Level) true h
+level_required Mesh ss h = left_of (is_set ss Level) true h
+
+level_missing : (v : Verb) (named : List (List ℕ)) (seen : Seen) (ss : List Setting) → IsTaken v named seen → seen.level ≡ None → IsSettled v named ss → is_set ss Level ≡ true → ⊥
+level_missing v named seen ss t none settled there =
     let e : t.settings ≡ ss = settings_once named t.settings ss t.settled.named_are settled.named_are in
-    let v : value_of ss Level ≡ None = ap (λ (u : List Setting). value_of u Level) (sym e) ∙ sym (t.held_are Level) ∙ none in
-    let f : is_set ss Level ≡ false = set_is Level ss ∙ ap is_some v in
+    let w : value_of ss Level ≡ None = ap (λ (u : List Setting). value_of u Level) (sym e) ∙ sym (t.held_are Level) ∙ none in
+    let f : is_set ss Level ≡ false = set_is Level ss ∙ ap is_some w in
     cc
 
-pub no_level : (ws : List (List ℕ)) (seen : Seen) → is_word ws 0 (codes "count") ≡ true → is_name ws 1 ≡ true → IsTaken Count (drop 2 ws) seen → seen.level ≡ None → IsBadPlace ws (length ws)
-no_level [] seen h k t none = let t : false ≡ true = grind (arith, nat_tests, h) in cc
-no_level (w ∷ []) seen h k t none = let t : false ≡ true = grind (arith, nat_tests, k) in cc
-no_level (w ∷ f ∷ rest) seen h k t none = record {
-  unread = λ c r. (let s = count_of (w ∷ f ∷ rest) c r in level_missing rest seen s.settings t none (named_settled w f rest c s) s.level);
+unlevelled : (v : Verb) (files named : List (List ℕ)) (seen : Seen) → length files ≡ file_count v → are_files files → IsTaken v named seen → seen.level ≡ None → IsBadPlace (verb_text v ∷ (files ++ named)) (length (verb_text v ∷ (files ++ named)))
+unlevelled v files named seen len some t none = record {
+  unread = λ c r. (let s = reads_as v files named c len r in level_missing v named seen s.settings t none s.settled (level_required v s.settings s.there));
   within = omega arith;
-  begins = subst (λ (u : List (List ℕ)). Begins u) (sym (take-length (w ∷ f ∷ rest))) (begins_with w f rest t.settings (verb_is w (f ∷ rest) h) (name_is w f rest k) t.settled);
+  begins = subst (λ (u : List (List ℕ)). Begins u) (sym (take-length (verb_text v ∷ (files ++ named)))) (begins_named v files named t.settings len some t.settled);
   ends = λ lt on. absurd (omega (arith, lt));
 }
+
+taken_behind : (ws : List (List ℕ)) (v : Verb) (seen : Seen) (o : IsOpened v ws) → IsTaken v (drop (file_count v + 1) ws) seen → IsTaken v o.named seen
+taken_behind ws v seen o t = subst (λ (u : List (List ℕ)). IsTaken v u seen) (named_from v ws o) t
+
+pub no_level : (ws : List (List ℕ)) (v : Verb) (seen : Seen) → IsOpened v ws → IsTaken v (drop (file_count v + 1) ws) seen → seen.level ≡ None → IsBadPlace ws (length ws)
+no_level ws v seen o t none =
+    subst (λ (u : List (List ℕ)). IsBadPlace u (length u)) (sym o.words_are) (unlevelled v o.files o.named seen o.files_len o.files_named (taken_behind ws v seen o t) none)
 
 -- what the command is
 below_is : (b : Bool) (o : Option ℤ) → (if b then Some (pos 1) else None) ≡ o → b ≡ is_some o
 below_is true o e = ap is_some e
 below_is false o e = ap is_some e
 
-step_is : (o : Option ℕ) (p : Option ℤ) → option_map pos o ≡ p → unwrap_or o 1 ≡ unsigned_abs (unwrap_or p (pos 1))
-step_is None p e = ap (λ (q : Option ℤ). unsigned_abs (unwrap_or q (pos 1))) e
-step_is (Some n) p e = ap (λ (q : Option ℤ). unsigned_abs (unwrap_or q (pos 1))) e
+number_is : (default : ℕ) (o : Option ℕ) (p : Option ℤ) → option_map pos o ≡ p → unwrap_or o default ≡ unsigned_abs (unwrap_or p (pos default))
+number_is default None p e = ap (λ (q : Option ℤ). unsigned_abs (unwrap_or q (pos default))) e
+number_is default (Some n) p e = ap (λ (q : Option ℤ). unsigned_abs (unwrap_or q (pos default))) e
 
-command_seen : (named : List (List ℕ)) (seen : Seen) (level : ℤ) (t : IsTaken Count named seen) → seen.level ≡ Some level → CountSigns 1 level seen.below (unwrap_or seen.step 1) ≡ command_of Count t.settings
-command_seen named seen level t e =
+command_is : (v : Verb) (named : List (List ℕ)) (seen : Seen) (level : ℤ) (t : IsTaken v named seen) → seen.level ≡ Some level → meaning_of (command_seen v level seen) ≡ command_of v t.settings
+command_is Count named seen level t e =
     let l : level ≡ value_or t.settings Level (pos 0) = ap (λ (o : Option ℤ). unwrap_or o (pos 0)) (sym e ∙ t.held_are Level) in
     let b : seen.below ≡ is_set t.settings Below = below_is seen.below (value_of t.settings Below) (t.held_are Below) ∙ sym (set_is Below t.settings) in
-    let s : unwrap_or seen.step 1 ≡ number_or t.settings Step 1 = step_is seen.step (value_of t.settings Step) (t.held_are Step) in
-    λ i. CountSigns 1 (l i) (b i) (s i)
+    let s : unwrap_or seen.step 1 ≡ number_or t.settings Step 1 = number_is 1 seen.step (value_of t.settings Step) (t.held_are Step) in
+    cc
+command_is Mesh named seen level t e =
+    let l : level ≡ value_or t.settings Level (pos 0) = ap (λ (o : Option ℤ). unwrap_or o (pos 0)) (sym e ∙ t.held_are Level) in
+    let b : seen.below ≡ is_set t.settings Below = below_is seen.below (value_of t.settings Below) (t.held_are Below) ∙ sym (set_is Below t.settings) in
+    let s : unwrap_or seen.step 1 ≡ number_or t.settings Step 1 = number_is 1 seen.step (value_of t.settings Step) (t.held_are Step) in
+    let long : unwrap_or seen.long 1023 ≡ number_or t.settings Long 1023 = number_is 1023 seen.long (value_of t.settings Long) (t.held_are Long) in
+    let short : unwrap_or seen.short 1687 ≡ number_or t.settings Short 1687 = number_is 1687 seen.short (value_of t.settings Short) (t.held_are Short) in
+    let workers : unwrap_or seen.workers 4 ≡ number_or t.settings Workers 4 = number_is 4 seen.workers (value_of t.settings Workers) (t.held_are Workers) in
+    let slab : unwrap_or seen.slab 4 ≡ number_or t.settings Slab 4 = number_is 4 seen.slab (value_of t.settings Slab) (t.held_are Slab) in
+    cc
 
-all_there : (named : List (List ℕ)) (seen : Seen) (level : ℤ) (t : IsTaken Count named seen) → seen.level ≡ Some level → list_all (is_set t.settings) (required Count) ≡ true
-all_there named seen level t e =
-    let v : value_of t.settings Level ≡ Some level = sym (t.held_are Level) ∙ e in
-    let f : is_set t.settings Level ≡ true = set_is Level t.settings ∙ ap is_some v in
-    rw f refl
+required_there : (v : Verb) (ss : List Setting) → is_set ss Level ≡ true → list_all (is_set ss) (required v) ≡ true
+required_there Count ss h = both (is_set ss Level) true h refl
+required_there Mesh ss h = both (is_set ss Level) true h refl
 
-pub reads_all : (ws : List (List ℕ)) (seen : Seen) (level : ℤ) → is_word ws 0 (codes "count") ≡ true → is_name ws 1 ≡ true → IsTaken Count (drop 2 ws) seen → seen.level ≡ Some level → Reads ws (CountSigns 1 level seen.below (unwrap_or seen.step 1))
-reads_all [] seen level h k t e = let t : false ≡ true = grind (arith, nat_tests, h) in cc
-reads_all (w ∷ []) seen level h k t e = let t : false ≡ true = grind (arith, nat_tests, k) in cc
-reads_all (w ∷ f ∷ rest) seen level h k t e =
-    let whole : Reads (codes "count" ∷ f ∷ rest) (command_of Count t.settings) = reads_whole f rest t.settings (name_is w f rest k) t.settled (all_there rest seen level t e) in
-    subst (λ (u : List ℕ). Reads (u ∷ f ∷ rest) (CountSigns 1 level seen.below (unwrap_or seen.step 1))) (sym (verb_is w (f ∷ rest) h))
-    (subst (λ (d : Command). Reads (codes "count" ∷ f ∷ rest) d) (sym (command_seen rest seen level t e)) whole)
+all_there : (v : Verb) (named : List (List ℕ)) (seen : Seen) (level : ℤ) (t : IsTaken v named seen) → seen.level ≡ Some level → list_all (is_set t.settings) (required v) ≡ true
+all_there v named seen level t e =
+    let w : value_of t.settings Level ≡ Some level = sym (t.held_are Level) ∙ e in
+    required_there v t.settings (set_is Level t.settings ∙ ap is_some w)
 
--- the step is one of those that a word can say
-step_by : (named : List (List ℕ)) (settings : List Setting) (o : Option ℕ) → AllZip ReadsSetting named settings → option_map pos o ≡ value_of settings Step → (1 ≤ unwrap_or o 1) × (unwrap_or o 1 ≤ 64)
-step_by named settings None zip e = (omega arith, omega arith)
-step_by named settings (Some n) zip e =
-    let s = said_in named settings Step (pos n) zip (sym e) in
-    let v = s.value_is in
-    let same : n ≡ v.0 = cc (v.4) in
-    (omega (arith, same, v.1), omega (arith, same, v.2))
+pub reads_all : (ws : List (List ℕ)) (v : Verb) (seen : Seen) (level : ℤ) → IsOpened v ws → IsTaken v (drop (file_count v + 1) ws) seen → seen.level ≡ Some level → Reads ws (meaning_of (command_seen v level seen))
+reads_all ws v seen level o taken e =
+    let t = taken_behind ws v seen o taken in
+    let whole : Reads (verb_text v ∷ (o.files ++ o.named)) (command_of v t.settings) = reads_whole v o.files o.named t.settings o.files_len o.files_named t.settled (all_there v o.named seen level t e) in
+    subst (λ (u : List (List ℕ)). Reads u (meaning_of (command_seen v level seen))) (sym o.words_are)
+    (subst (λ (d : Command). Reads (verb_text v ∷ (o.files ++ o.named)) d) (sym (command_is v o.named seen level t e)) whole)
 
-pub step_within : (named : List (List ℕ)) (seen : Seen) → IsTaken Count named seen → (1 ≤ unwrap_or seen.step 1) × (unwrap_or seen.step 1 ≤ 64)
-step_within named seen t = step_by named t.settings seen.step t.settled.named_are (t.held_are Step)
+-- the numbers of a command are within their limits
+pub step_within : (v : Verb) (named : List (List ℕ)) (seen : Seen) → IsTaken v named seen → (1 ≤ unwrap_or seen.step 1) × (unwrap_or seen.step 1 ≤ 64)
+step_within v named seen t = number_between Step 1 64 1 named t.settings seen.step (λ text value h. h) (omega arith) (omega arith) t.settled.named_are (t.held_are Step)
+
+pub long_within : (v : Verb) (named : List (List ℕ)) (seen : Seen) → IsTaken v named seen → unwrap_or seen.long 1023 ≤ 1023
+long_within v named seen t = (number_between Long 0 1023 1023 named t.settings seen.long (λ text value h. h) (omega arith) (omega arith) t.settled.named_are (t.held_are Long)).1
+
+pub short_within : (v : Verb) (named : List (List ℕ)) (seen : Seen) → IsTaken v named seen → unwrap_or seen.short 1687 ≤ 2047
+short_within v named seen t = (number_between Short 0 2047 1687 named t.settings seen.short (λ text value h. h) (omega arith) (omega arith) t.settled.named_are (t.held_are Short)).1
+
+pub plan_within : (v : Verb) (named : List (List ℕ)) (seen : Seen) → IsTaken v named seen → IsPlan (record { workers = unwrap_or seen.workers 4; slab = unwrap_or seen.slab 4 })
+plan_within v named seen t =
+    let w = number_between Workers 1 64 4 named t.settings seen.workers (λ text value h. h) (omega arith) (omega arith) t.settled.named_are (t.held_are Workers) in
+    let s = number_between Slab 1 64 4 named t.settings seen.slab (λ text value h. h) (omega arith) (omega arith) t.settled.named_are (t.held_are Slab) in
+    record { some_workers = w.0; most_workers = w.1; some_slab = s.0; most_slab = s.1 }
+
+-- what a command that was seen says
+pub step_seen : (v : Verb) (level : ℤ) (seen : Seen) → step_of (command_seen v level seen) ≡ unwrap_or seen.step 1
+step_seen Count level seen = refl
+step_seen Mesh level seen = refl
+
+pub plan_seen : (v : Verb) (level : ℤ) (seen : Seen) → IsPlan (record { workers = unwrap_or seen.workers 4; slab = unwrap_or seen.slab 4 }) → IfSome (mesh_of (command_seen v level seen)) (λ m. IsPlan m.plan)
+plan_seen Count level seen h = tt
+plan_seen Mesh level seen h = h
 
 -- A list reads as one command at most, and words are bad at one place at most.
 pub one_command : (ws : List (List ℕ)) (c d : Command) → Reads ws c → Reads ws d → c ≡ d
 one_command ws c d r q =
-    let s = count_of ws c r in
-    let t = count_of ws d q in
-    let e : codes "count" ∷ s.file ∷ s.named ≡ codes "count" ∷ t.file ∷ t.named = sym s.words_are ∙ t.words_are in
-    let n : t.named ≡ s.named = cc in
-    let zip : AllZip ReadsSetting s.named t.settings = subst (λ (u : List (List ℕ)). AllZip ReadsSetting u t.settings) n t.settled.named_are in
-    s.command_is ∙ ap (command_of Count) (settings_once s.named s.settings t.settings s.settled.named_are zip) ∙ sym t.command_is
+    let same = reads_as r.verb r.files r.named d r.files_len (subst (λ (u : List (List ℕ)). Reads u d) r.words_are q) in
+    r.command_is ∙ ap (command_of r.verb) (settings_once r.named r.settings same.settings r.named_are same.settled.named_are) ∙ sym same.command_is
 
 -- a list whose beginning begins a command
 begins_before : (ws : List (List ℕ)) (m n : ℕ) → m ≤ n → Begins (take n ws) → Begins (take m ws)

@@ -1,16 +1,19 @@
 -- Named words that are taken one after another: what was seen, and when no command goes on.
-use Rattle.std.proofs.Common.{◌≡◌, ℕ, ℤ, ◌+◌, ◌-◌, ◌<◌, ◌≤◌, List, [], ◌∷◌, ◌++◌, length, take, drop, append_assoc, append-nil, Bool, true, false, Option, Some, None, refl, ap, sym, ◌∙◌, subst, arith, suc, slice_index_or}
-use Rattle.std.specs.Prelude.{count_by, cond, find, option_map, is_some, ◌&&◌, ◌||◌, if◌then◌else◌}
+use Rattle.std.proofs.Common.{◌≡◌, ℕ, ℤ, pos, ◌+◌, ◌-◌, ◌<◌, ◌≤◌, List, [], ◌∷◌, ◌++◌, length, take, drop, append_assoc, append-nil, Bool, true, false, Option, Some, None, refl, ap, sym, ◌∙◌, subst, arith, suc, slice_index_or}
+use Rattle.std.specs.Prelude.{count_by, cond, find, option_map, is_some, unwrap_or, ◌&&◌, ◌||◌, if◌then◌else◌}
 use Rattle.std.specs.List.{AllZip, list_all}
 use Rattle.std.specs.Option.{option_or}
 use Rattle.std.proofs.Math.Seq.{take-suc}
 use Rattle.std.proofs.lemmas.List.{get_or-drop, length-drop, take_all}
 use Rattle.std.proofs.lemmas.List.Sums.{sum_by-cons, sum_by-append}
 use Rattle.std.proofs.lemmas.List.Folds.{find-append, list_any-append, list_all-append}
-use Rattle.command_line.specs.Grammar.{Name, Setting, ReadsSetting, Verb, Count, IsValue, is_of, is_set, same_name, name_text, required}
+use Rattle.command_line.specs.Grammar.{Setting, ReadsSetting, IsValue, IsNumber, is_of, is_set, same_name, name_text, required}
+use Rattle.command_line.specs.declared.Name.{Name}
+use Rattle.command_line.specs.declared.Verb.{Verb}
+use Rattle.command_line.specs.declared.Verb.TheVariants.{Count, Mesh}
 use Rattle.command_words.specs.declared.settings.Seen.{Seen}
 use Rattle.command_words.specs.Settings.{held, said, value_of, is_known, IsSettled, IsTaken, IsTakenAs, IsStuck, IsStop}
-use Rattle.command_words.proofs.Names.{same_is, same_self, settings_once, sample_text, sample_value, sample_reads}
+use Rattle.command_words.proofs.NamedWords.{same_is, same_self, settings_once, sample_text, sample_value, sample_reads}
 
 -- lists that go with one another, place by place
 zip_push : (ws : List (List ℕ)) (ss : List Setting) (w : List ℕ) (s : Setting) → AllZip ReadsSetting ws ss → ReadsSetting w s → AllZip ReadsSetting (ws ++ w ∷ []) (ss ++ s ∷ [])
@@ -34,14 +37,14 @@ zip_split (w ∷ ws) vs (s ∷ ss) r =
     record { front = s ∷ h.front; back = h.back; parts = ap (λ (u : List Setting). s ∷ u) h.parts; front_are = (r.0, h.front_are); back_are = h.back_are }
 
 -- tests
-both : (a b : Bool) → a ≡ true → b ≡ true → (a && b) ≡ true
+pub both : (a b : Bool) → a ≡ true → b ≡ true → (a && b) ≡ true
 both a b p q = rw (p, q) refl
 
 pub left_of : (a b : Bool) → (a && b) ≡ true → a ≡ true
 left_of true b h = refl
 left_of false b h = h
 
-right_of : (a b : Bool) → (a && b) ≡ true → b ≡ true
+pub right_of : (a b : Bool) → (a && b) ≡ true → b ≡ true
 right_of true b h = h
 right_of false b h = let t : false ≡ true = h in cc
 
@@ -123,6 +126,19 @@ settled_more v ws ss w s h r k z = record {
 pub settled_none : (v : Verb) → IsSettled v [] []
 settled_none v = record { named_are = tt; once = λ n. omega arith; known = refl }
 
+-- a setting whose name was not set before comes first or last
+or_swap : (b : Bool) (value : ℤ) (o : Option ℤ) → (b ≡ true → o ≡ None) → option_or (if b then Some value else None) o ≡ option_or o (if b then Some value else None)
+or_swap true value o h = rw (h refl) refl
+or_swap false value None h = refl
+or_swap false value (Some z) h = refl
+
+pub said_first : (seen : Seen) (s : Setting) (n : Name) → held seen s.name ≡ None → option_or (said s n) (held seen n) ≡ option_or (held seen n) (said s n)
+said_first seen s n h = or_swap (same_name n s.name) s.value (held seen n) (λ t. ap (held seen) (same_is n s.name t) ∙ h)
+
+pub unset_none : (o : Option ℤ) → is_some o ≡ false → o ≡ None
+unset_none None h = refl
+unset_none (Some z) h = let t : true ≡ false = h in cc
+
 pub taken_none : (v : Verb) (seen : Seen) → ((n : Name) → held seen n ≡ None) → IsTaken v [] seen
 taken_none v seen h = record { settings = []; settled = settled_none v; held_are = h }
 
@@ -150,10 +166,6 @@ still_set ss ts (n ∷ names) h =
 newly_set : (ss : List Setting) (s : Setting) → is_set (ss ++ s ∷ []) s.name ≡ true
 newly_set ss s = list_any-append (is_of s.name) ss (s ∷ []) ∙ or_right (is_set ss s.name) (same_name s.name s.name || false) (or_left (same_name s.name s.name) false (same_self s.name))
 
-unset_none : (o : Option ℤ) → is_some o ≡ false → o ≡ None
-unset_none None h = refl
-unset_none (Some z) h = let t : true ≡ false = h in cc
-
 fill_by : (v : Verb) (ws : List (List ℕ)) (n : Name) (names : List Name) (b : Bool) (f : IsFilled v ws names) → is_known v n ≡ true → is_set f.settings n ≡ b → IsFilled v ws (n ∷ names)
 fill_by v ws n names true f k e = record { rest = f.rest; settings = f.settings; settled = f.settled; there = both (is_set f.settings n) (list_all (is_set f.settings) names) e f.there }
 fill_by v ws n names false f k e =
@@ -175,6 +187,7 @@ fill v ws ss h (n ∷ names) k =
 
 required_known : (v : Verb) → list_all (is_known v) (required v) ≡ true
 required_known Count = refl
+required_known Mesh = refl
 
 pub filled : (v : Verb) (ws : List (List ℕ)) (ss : List Setting) → IsSettled v ws ss → IsFilled v ws (required v)
 filled v ws ss h = fill v ws ss h (required v) (required_known v)
@@ -215,6 +228,15 @@ said_in [] [] n value r h = let t : None ≡ Some value = h in cc
 said_in [] (s ∷ ss) n value r h = absurd r
 said_in (w ∷ ws) [] n value r h = absurd r
 said_in (w ∷ ws) (s ∷ ss) n value r h = said_step (is_of n s) n value s w (find (is_of n) ss) (same_is n s.name) r.0 (said_in ws ss n value r.1) h
+
+-- The number that a name is set to, or its default, is within the name's limits.
+pub number_between : (n : Name) (low high default : ℕ) (ws : List (List ℕ)) (ss : List Setting) (o : Option ℕ) → ((text : List ℕ) (value : ℤ) → IsValue n text value → IsNumber low high text value) → low ≤ default → default ≤ high → AllZip ReadsSetting ws ss → option_map pos o ≡ value_of ss n → (low ≤ unwrap_or o default) × (unwrap_or o default ≤ high)
+number_between n low high default ws ss None limits l h zip e = (l, h)
+number_between n low high default ws ss (Some k) limits l h zip e =
+    let s = said_in ws ss n (pos k) zip (sym e) in
+    let v = limits s.text (pos k) s.value_is in
+    let same : k ≡ v.0 = cc (v.4) in
+    (omega (arith, same, v.1), omega (arith, same, v.2))
 
 -- words taken one after another, from a start on
 abbrev from_start : List (List ℕ) → ℕ → ℕ → List (List ℕ)

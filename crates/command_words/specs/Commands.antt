@@ -1,33 +1,71 @@
 -- What the code's commands mean by the grammar.
-use Rattle.std.specs.Prelude.{ℕ, ℤ, Bool, ◌&&◌, not, nat_lt, ◌==◌, List, [], length, slice_index_or}
+use Rattle.std.specs.Prelude.{◌≡◌, ℕ, ◌+◌, ◌<◌, ℤ, Bool, true, false, ◌&&◌, not, nat_lt, ◌==◌, List, [], ◌∷◌, length, slice_index_or, Option, Some, None, unwrap_or}
 use Rattle.std.specs.Str.{bytes_eq}
-use Rattle.command_line.specs.Grammar.{Command as Meaning, CountSigns}
+use Rattle.command_line.specs.declared.Verb.{Verb}
+use Rattle.command_line.specs.declared.Verb.TheVariants as verb
+use Rattle.command_line.specs.Grammar.{Command as Meaning, CountSigns, MakeMesh, verb_text}
 use Rattle.command_words.specs.declared.command.Command.{Command}
-use Rattle.command_words.specs.declared.command.Command.TheVariants.{Count}
+use Rattle.command_words.specs.declared.command.Command.TheVariants.{Count, Mesh}
+use Rattle.command_words.specs.declared.command.MeshSettings.{MeshSettings}
+use Rattle.command_words.specs.declared.settings.Seen.{Seen}
 
 abbrev pub meaning_of : Command → Meaning
 meaning_of (Count input level below step) = CountSigns input level below step
+meaning_of (Mesh input output level below step shares plan) = MakeMesh input output level below step shares plan
 
 -- the number of the word that names the input
 abbrev pub input_of : Command → ℕ
 input_of (Count input level below step) = input
+input_of (Mesh input output level below step shares plan) = input
 
 -- twice its level
 abbrev pub level_of : Command → ℤ
 level_of (Count input level below step) = level
+level_of (Mesh input output level below step shares plan) = level
 
 -- whether it speaks of the region below the level
 abbrev pub below_of : Command → Bool
 below_of (Count input level below step) = below
+below_of (Mesh input output level below step shares plan) = below
 
 -- its step, in samples
 abbrev pub step_of : Command → ℕ
 step_of (Count input level below step) = step
+step_of (Mesh input output level below step shares plan) = step
+
+-- what a mesh alone has
+abbrev pub mesh_of : Command → Option MeshSettings
+mesh_of (Count input level below step) = None
+mesh_of (Mesh input output level below step shares plan) = Some (record { output = output; shares = shares; plan = plan })
+
+-- the command of a verb, by what its named words set
+abbrev pub command_seen : Verb → ℤ → Seen → Command
+command_seen verb.Count level seen = Count 1 level seen.below (unwrap_or seen.step 1)
+command_seen verb.Mesh level seen =
+    Mesh 1 2 level seen.below (unwrap_or seen.step 1)
+    (record { long = unwrap_or seen.long 1023; short = unwrap_or seen.short 1687 })
+    (record { workers = unwrap_or seen.workers 4; slab = unwrap_or seen.slab 4 })
 
 -- word n is this text
 abbrev pub is_word : List (List ℕ) → ℕ → List ℕ → Bool
 is_word words n text = nat_lt n (length words) && bytes_eq (slice_index_or words n []) text
 
+-- the first word is the verb's
+abbrev pub HasVerb : List (List ℕ) → Verb → Type 0
+HasVerb words v = (rest : List (List ℕ)) × (words ≡ verb_text v ∷ rest)
+
 -- word n can be a file's name: it is there, and is not empty
 abbrev pub is_name : List (List ℕ) → ℕ → Bool
 is_name words n = nat_lt n (length words) && not (length (slice_index_or words n []) == 0)
+
+-- the words behind the first can be names of so many files
+abbrev pub AreNames : List (List ℕ) → ℕ → Type 0
+AreNames words count = (k : ℕ) → k < count → is_name words (k + 1) ≡ true
+
+-- The first of so many words behind the first that cannot be a file's name.
+pub record IsBadName (words : List (List ℕ)) (count place : ℕ) : Type 0 where
+  pub names : ℕ
+  pub place_is : place ≡ names + 1
+  pub within : names < count
+  pub before : AreNames words names
+  pub bad : is_name words (names + 1) ≡ false

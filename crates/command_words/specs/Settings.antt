@@ -2,22 +2,33 @@
 use Rattle.std.specs.Prelude.{◌≡◌, ℕ, ◌+◌, ◌<◌, ◌≤◌, Bool, true, ◌||◌, IsTrue, List, [], length, take, drop, count_by, Option, Some, None, option_map, if◌then◌else◌, find, slice_index_or, ℤ, pos}
 use Rattle.std.specs.List.{AllZip, list_all}
 use Rattle.std.specs.Option.{option_or}
-use Rattle.command_line.specs.Grammar.{Name, Level, Below, Step, Setting, ReadsSetting, Verb, is_among, is_of, same_name, required, optional}
+use Rattle.command_line.specs.Grammar.{Setting, ReadsSetting, is_among, is_of, same_name, required, optional}
+use Rattle.command_line.specs.declared.Name.{Name}
+use Rattle.command_line.specs.declared.Name.TheVariants.{Level, Below, Step, Long, Short, Workers, Slab}
+use Rattle.command_line.specs.declared.Verb.{Verb}
 use Rattle.command_words.specs.declared.settings.Setting.{Setting as Choice}
-use Rattle.command_words.specs.declared.settings.Setting.TheVariants.{Level as LevelWord, Below as BelowWord, Step as StepWord}
+use Rattle.command_words.specs.declared.settings.Setting.TheVariants as choice
 use Rattle.command_words.specs.declared.settings.Seen.{Seen}
 
 -- what a named word sets
 abbrev pub setting_of : Choice → Setting
-setting_of (LevelWord twice) = record { name = Level; value = twice }
-setting_of BelowWord = record { name = Below; value = pos 1 }
-setting_of (StepWord n) = record { name = Step; value = pos n }
+setting_of (choice.Level twice) = record { name = Level; value = twice }
+setting_of choice.Below = record { name = Below; value = pos 1 }
+setting_of (choice.Step n) = record { name = Step; value = pos n }
+setting_of (choice.Long n) = record { name = Long; value = pos n }
+setting_of (choice.Short n) = record { name = Short; value = pos n }
+setting_of (choice.Workers n) = record { name = Workers; value = pos n }
+setting_of (choice.Slab n) = record { name = Slab; value = pos n }
 
 -- what a name is set to by what was seen
 abbrev pub held : Seen → Name → Option ℤ
 held seen Level = seen.level
 held seen Below = if seen.below then Some (pos 1) else None
 held seen Step = option_map pos seen.step
+held seen Long = option_map pos seen.long
+held seen Short = option_map pos seen.short
+held seen Workers = option_map pos seen.workers
+held seen Slab = option_map pos seen.slab
 
 -- what a name is set to by one setting
 abbrev pub said : Setting → Name → Option ℤ

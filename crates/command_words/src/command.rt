@@ -1,10 +1,10 @@
-ghost use Rattle.std.specs.Prelude.{◌≡◌, ◌<◌, ◌≤◌, List, ℕ, length, IfOk, IfErr};
-ghost use Rattle.command_line.specs.Grammar.{Reads, IsBadPlace, Command as Meaning};
-ghost use Rattle.command_words.specs.Commands.{is_word as is_word_lem, input_of, level_of, below_of, step_of, is_name as is_name_lem, meaning_of};
+ghost use Rattle.std.specs.Prelude.{◌≡◌, IfSome, IfNone};
+ghost use Rattle.command_line.specs.Grammar.{CountSigns, MakeMesh};
+ghost use Rattle.command_words.specs.Commands.{input_of, level_of, below_of, step_of, mesh_of, meaning_of};
 
-use crate::settings::read_settings;
+use command_line::Plan;
 use samples::Level;
-use st_base::Words;
+use snap_rule::Shares;
 
 /// What the words ask for. A file is named by the number of its word.
 #[derive(Clone, Copy)]
@@ -16,6 +16,25 @@ pub enum Command {
         below: bool,
         step: u32,
     },
+    /// Make the mesh of a volume at a level.
+    Mesh {
+        input: usize,
+        output: usize,
+        level: Level,
+        below: bool,
+        step: u32,
+        shares: Shares,
+        plan: Plan,
+    },
+}
+
+/// What `mesh` alone has: the number of the word that names the output, the shares within which a
+/// cut is near, and how the work is shared out.
+#[derive(Clone, Copy)]
+pub struct MeshSettings {
+    pub output: usize,
+    pub shares: Shares,
+    pub plan: Plan,
 }
 
 impl Command {
@@ -24,7 +43,7 @@ impl Command {
         ensures { result ≡ input_of self.now }
     {
         match self {
-            Command::Count { input, .. } => *input,
+            Command::Count { input, .. } | Command::Mesh { input, .. } => *input,
         }
     }
 
@@ -33,7 +52,7 @@ impl Command {
         ensures { result ≡ level_of self.now }
     {
         match self {
-            Command::Count { level, .. } => *level,
+            Command::Count { level, .. } | Command::Mesh { level, .. } => *level,
         }
     }
 
@@ -42,7 +61,7 @@ impl Command {
         ensures { result ≡ below_of self.now }
     {
         match self {
-            Command::Count { below, .. } => *below,
+            Command::Count { below, .. } | Command::Mesh { below, .. } => *below,
         }
     }
 
@@ -51,56 +70,28 @@ impl Command {
         ensures { result ≡ step_of self.now }
     {
         match self {
-            Command::Count { step, .. } => *step,
+            Command::Count { step, .. } | Command::Mesh { step, .. } => *step,
+        }
+    }
+
+    /// What `mesh` alone has. None: the command is `count`.
+    pub fn mesh(&self) -> Option<MeshSettings>
+        ensures settings { result ≡ mesh_of self.now }
+        ensures made { IfSome result (λ m. meaning_of self.now ≡ MakeMesh (input_of self.now) m.output (level_of self.now) (below_of self.now) (step_of self.now) m.shares m.plan) }
+        ensures counted { IfNone result (meaning_of self.now ≡ CountSigns (input_of self.now) (level_of self.now) (below_of self.now) (step_of self.now)) }
+    {
+        match self {
+            Command::Count { .. } => None,
+            Command::Mesh {
+                output,
+                shares,
+                plan,
+                ..
+            } => Some(MeshSettings {
+                output: *output,
+                shares: *shares,
+                plan: *plan,
+            }),
         }
     }
 }
-
-// Whether word `n` is this text.
-fn is_word(words: &Words, n: usize, text: &[u8]) -> bool
-    ensures { result ≡ is_word_lem words.now n text.now }
-{
-    n < words.len() && words.word(n) == text
-}
-
-// Whether word `n` can be a file's name.
-fn is_name(words: &Words, n: usize) -> bool
-    ensures { result ≡ is_name_lem words.now n }
-{
-    n < words.len() && !words.word(n).is_empty()
-}
-
-/// The command that the words are, or the place of bad words: the number of the first word with
-/// which no command goes on, or of words where all of them begin one.
-pub fn read_words(words: &Words) -> Result<Command, u64>
-    ensures command { IfOk result (λ c. Reads words.now (meaning_of c)) }
-    ensures input { IfOk result (λ c. input_of c < length words.now) }
-    ensures step { IfOk result (λ c. (1 ≤ step_of c) × (step_of c ≤ 64)) }
-    ensures place { IfErr result (λ place. IsBadPlace words.now place) }
-{
-    if !is_word(words, 0, b"count") {
-        return Err(0);
-    }
-    if !is_name(words, 1) {
-        return Err(1);
-    }
-    let seen = match read_settings(words, 2) {
-        Ok(seen) => seen,
-        Err(place) => return Err(place),
-    };
-    let Some(level) = seen.level else {
-        return Err(words.len() as u64);
-    };
-    Ok(Command::Count {
-        input: 1,
-        level,
-        below: seen.below,
-        step: seen.step.unwrap_or(1),
-    })
-}
-
-/// A list of words reads as one command at most, and words are bad at one place at most.
-pub fn words_read_once()
-    ensures command { (words : List (List ℕ)) (c d : Meaning) → Reads words c → Reads words d → c ≡ d }
-    ensures place { (words : List (List ℕ)) (m n : ℕ) → IsBadPlace words m → IsBadPlace words n → m ≡ n }
-{}

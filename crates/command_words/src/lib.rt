@@ -3,8 +3,15 @@
 
 mod command;
 mod ends;
+mod names;
 mod numbers;
+mod read;
 mod settings;
+mod verbs;
 
-pub use command::{Command, read_words, words_read_once};
+pub use command::{Command, MeshSettings};
 pub use numbers::{halves, level, number};
+pub use read::{read_words, words_read_once};
+
+#[cfg(test)]
+mod tests;

@@ -1,7 +1,7 @@
-ghost use Rattle.std.specs.Prelude.{◌≡◌, ◌<◌, ◌*◌, ◌+◌, ◌^◌, ℕ, ℤ, Some, IfSome, decimal, pos, neg_ℤ, option_map};
+ghost use Rattle.std.specs.Prelude.{◌≡◌, ◌<◌, ◌*◌, ◌+◌, ◌^◌, ℕ, ℤ, Some, IfSome, ◌≤◌, decimal, pos, neg_ℤ, option_map};
 ghost use Rattle.std.specs.Option.{ForSome};
 ghost use Rattle.std.specs.Str.{bytes_eq};
-ghost use Rattle.command_line.specs.Grammar.{IsHalves, IsLevel};
+ghost use Rattle.command_line.specs.Grammar.{IsNumber, IsHalves, IsLevel};
 
 use crate::ends::{after_start, before_end};
 use itoa::Buffer;
@@ -28,6 +28,18 @@ pub fn number(text: &[u8]) -> Option<u64>
         return None;
     };
     if is_printed(n, text) { Some(n) } else { None }
+}
+
+/// The whole number from `low` to `high` that a text is: decimal digits without a sign or a leading
+/// zero.
+pub fn number_within(text: &[u8], low: u32, high: u32) -> Option<u32>
+    ensures text { IfSome result (λ n. IsNumber low high text.now (pos n)) }
+    ensures found { (n : ℕ) → low ≤ n → n ≤ high → text.now ≡ decimal n → result ≡ Some n }
+{
+    match number(text) {
+        Some(n) if n >= low as u64 && n <= high as u64 => Some(n as u32),
+        _ => None,
+    }
 }
 
 // Twice a whole number below 2^32, and a half more or none.

@@ -1,63 +1,57 @@
-ghost use Rattle.std.specs.Prelude.{◌≡◌, ◌≢◌, ◌<◌, ◌≤◌, ℕ, ℤ, List, Option, Some, None, IfSome, IfNone, IfOk, IfErr, length, drop, pos, codes, decimal, option_map};
+ghost use Rattle.std.specs.Prelude.{◌≡◌, ◌≤◌, ℤ, Some, None, IfSome, IfNone, IfOk, IfErr, length, drop, option_map, is_some, unwrap_or};
 ghost use Rattle.std.specs.Option.{option_or};
-ghost use Rattle.command_line.specs.Grammar.{Name, Level as LevelName, Below as BelowName, Step as StepName, Setting as Meaning, ReadsSetting, IsValue, Count};
+ghost use Rattle.command_line.specs.declared.Name.{Name as NameValue};
+ghost use Rattle.command_line.specs.Grammar.{Setting as Meaning, ReadsSetting, IsValue};
 ghost use Rattle.command_words.specs.Settings.{setting_of, held, said, IsTakenAs, IsStuck, IsTaken, IsStop};
 
 use crate::ends::after_start;
-use crate::numbers::{level, number};
+use crate::names::{NAMES, name_text};
+use crate::numbers::{level, number_within};
+use crate::verbs::is_known;
+use command_line::{Name, Plan, Verb};
 use samples::Level;
+use snap_rule::Shares;
 use st_base::Words;
 
-// A named word, read.
+/// A named word, read.
 #[derive(Clone, Copy)]
 pub enum Setting {
     Level(Level),
     Below,
     Step(u32),
+    Long(u32),
+    Short(u32),
+    Workers(u32),
+    Slab(u32),
 }
 
-// What the named words have set so far.
+/// What the named words have set so far.
 #[derive(Clone, Copy)]
 pub struct Seen {
     pub level: Option<Level>,
     pub below: bool,
     pub step: Option<u32>,
+    pub long: Option<u32>,
+    pub short: Option<u32>,
+    pub workers: Option<u32>,
+    pub slab: Option<u32>,
 }
 
-// The level that stands behind `level=`.
-fn level_text(text: &[u8]) -> Option<Setting>
-    ensures name { IfSome result (λ s. (setting_of s).name ≡ LevelName) }
-    ensures text { IfSome result (λ s. IsValue LevelName text.now (setting_of s).value) }
-    ensures found { (value : ℤ) → IsValue LevelName text.now value → option_map setting_of result ≡ Some (record { name = LevelName; value = value }) }
+// What the text behind a name sets it to.
+fn read_value(name: Name, text: &[u8]) -> Option<Setting>
+    ensures name { IfSome result (λ s. (setting_of s).name ≡ name) }
+    ensures text { IfSome result (λ s. IsValue name text.now (setting_of s).value) }
+    ensures found { (value : ℤ) → IsValue name text.now value → option_map setting_of result ≡ Some (record { name = name; value = value }) }
 {
-    match level(text) {
-        Some(level) => Some(Setting::Level(level)),
-        None => None,
-    }
-}
-
-// What stands behind `below=`.
-fn below_text(text: &[u8]) -> Option<Setting>
-    ensures name { IfSome result (λ s. (setting_of s).name ≡ BelowName) }
-    ensures text { IfSome result (λ s. IsValue BelowName text.now (setting_of s).value) }
-    ensures found { (value : ℤ) → IsValue BelowName text.now value → option_map setting_of result ≡ Some (record { name = BelowName; value = value }) }
-{
-    if text == b"yes".as_slice() {
-        Some(Setting::Below)
-    } else {
-        None
-    }
-}
-
-// The step that stands behind `step=`.
-fn step_text(text: &[u8]) -> Option<Setting>
-    ensures name { IfSome result (λ s. (setting_of s).name ≡ StepName) }
-    ensures text { IfSome result (λ s. IsValue StepName text.now (setting_of s).value) }
-    ensures found { (value : ℤ) → IsValue StepName text.now value → option_map setting_of result ≡ Some (record { name = StepName; value = value }) }
-{
-    match number(text) {
-        Some(step) if step >= 1 && step <= 64 => Some(Setting::Step(step as u32)),
-        _ => None,
+    match name {
+        Name::Level => Some(Setting::Level(level(text)?)),
+        Name::Below if text == b"yes".as_slice() => Some(Setting::Below),
+        Name::Below => None,
+        Name::Step => Some(Setting::Step(number_within(text, 1, 64)?)),
+        Name::Long => Some(Setting::Long(number_within(text, 0, 1023)?)),
+        Name::Short => Some(Setting::Short(number_within(text, 0, 2047)?)),
+        Name::Workers => Some(Setting::Workers(number_within(text, 1, 64)?)),
+        Name::Slab => Some(Setting::Slab(number_within(text, 1, 64)?)),
     }
 }
 
@@ -66,85 +60,127 @@ fn read_setting(word: &[u8]) -> Option<Setting>
     ensures reads { IfSome result (λ s. ReadsSetting word.now (setting_of s)) }
     ensures found { (s : Meaning) → ReadsSetting word.now s → option_map setting_of result ≡ Some s }
 {
-    if let Some(text) = after_start(word, b"level=") {
-        return level_text(text);
-    }
-    if let Some(text) = after_start(word, b"below=") {
-        return below_text(text);
-    }
-    if let Some(text) = after_start(word, b"step=") {
-        return step_text(text);
+    for name in &NAMES {
+        if let Some(text) = after_start(word, name_text(*name)) {
+            return read_value(*name, text);
+        }
     }
     None
+}
+
+impl Setting {
+    // The name that it sets.
+    fn name(&self) -> Name
+        ensures { result ≡ (setting_of self.now).name }
+    {
+        match self {
+            Setting::Level(_) => Name::Level,
+            Setting::Below => Name::Below,
+            Setting::Step(_) => Name::Step,
+            Setting::Long(_) => Name::Long,
+            Setting::Short(_) => Name::Short,
+            Setting::Workers(_) => Name::Workers,
+            Setting::Slab(_) => Name::Slab,
+        }
+    }
 }
 
 impl Seen {
     // Nothing seen.
     fn new() -> Seen
-        ensures { (n : Name) → held result n ≡ None }
+        ensures { (n : NameValue) → held result n ≡ None }
     {
         Seen {
             level: None,
             below: false,
             step: None,
+            long: None,
+            short: None,
+            workers: None,
+            slab: None,
         }
     }
 
-    // One more setting. None: its name was set before.
-    fn with(self, setting: Setting) -> Option<Seen>
-        ensures first { IfSome result (λ next. held self (setting_of setting).name ≡ None) }
-        ensures next { IfSome result (λ next. (n : Name) → held next n ≡ option_or (held self n) (said (setting_of setting) n)) }
-        ensures again { IfNone result (held self (setting_of setting).name ≢ None) }
+    // Whether a name is set.
+    fn is_set(&self, name: Name) -> bool
+        ensures { result ≡ is_some (held self.now name) }
     {
+        match name {
+            Name::Level => self.level.is_some(),
+            Name::Below => self.below,
+            Name::Step => self.step.is_some(),
+            Name::Long => self.long.is_some(),
+            Name::Short => self.short.is_some(),
+            Name::Workers => self.workers.is_some(),
+            Name::Slab => self.slab.is_some(),
+        }
+    }
+
+    // The same with one setting more.
+    fn with(&self, setting: Setting) -> Seen
+        ensures { (n : NameValue) → held result n ≡ option_or (said (setting_of setting) n) (held self.now n) }
+    {
+        let mut seen = *self;
         match setting {
-            Setting::Level(level) => match self.level {
-                Some(_) => None,
-                None => Some(Seen {
-                    level: Some(level),
-                    ..self
-                }),
-            },
-            Setting::Below => {
-                if self.below {
-                    None
-                } else {
-                    Some(Seen {
-                        below: true,
-                        ..self
-                    })
-                }
-            }
-            Setting::Step(step) => match self.step {
-                Some(_) => None,
-                None => Some(Seen {
-                    step: Some(step),
-                    ..self
-                }),
-            },
+            Setting::Level(level) => seen.level = Some(level),
+            Setting::Below => seen.below = true,
+            Setting::Step(step) => seen.step = Some(step),
+            Setting::Long(share) => seen.long = Some(share),
+            Setting::Short(share) => seen.short = Some(share),
+            Setting::Workers(count) => seen.workers = Some(count),
+            Setting::Slab(size) => seen.slab = Some(size),
+        }
+        seen
+    }
+
+    // One more word. None: the command does not go on with it.
+    fn take(&self, verb: Verb, word: &[u8]) -> Option<Seen>
+        ensures taken { IfSome result (λ next. IsTakenAs verb self.now word.now next) }
+        ensures stuck { IfNone result (IsStuck verb self.now word.now) }
+    {
+        let setting = read_setting(word)?;
+        let name = setting.name();
+        if !is_known(verb, name) || self.is_set(name) {
+            return None;
+        }
+        Some(self.with(setting))
+    }
+
+    /// The shares, 1023 and 1687 where none are set.
+    pub fn shares(&self) -> Shares
+        requires long { unwrap_or self.now.long 1023 ≤ 1023 }
+        requires short { unwrap_or self.now.short 1687 ≤ 2047 }
+        ensures { result ≡ record { long = unwrap_or self.now.long 1023; short = unwrap_or self.now.short 1687 } }
+    {
+        let long = self.long.unwrap_or(1023);
+        let short = self.short.unwrap_or(1687);
+        match Shares::new(long as u16, short as u16) {
+            Some(shares) => shares,
+            None => unreachable!(),
         }
     }
 
-    // One more word. None: no command goes on with it.
-    fn take(self, word: &[u8]) -> Option<Seen>
-        ensures taken { IfSome result (λ next. IsTakenAs Count self word.now next) }
-        ensures stuck { IfNone result (IsStuck Count self word.now) }
+    /// The plan, of 4 and 4 where nothing is set.
+    pub fn plan(&self) -> Plan
+        ensures { result ≡ record { workers = unwrap_or self.now.workers 4; slab = unwrap_or self.now.slab 4 } }
     {
-        match read_setting(word) {
-            Some(setting) => self.with(setting),
-            None => None,
+        Plan {
+            workers: self.workers.unwrap_or(4),
+            slab: self.slab.unwrap_or(4),
         }
     }
 }
 
-// What the words from word `start` on set, or the place of the first that no command goes on with.
-pub fn read_settings(words: &Words, start: usize) -> Result<Seen, u64>
+/// What the words from word `start` on set, or the place of the first that the command does not go
+/// on with.
+pub fn read_settings(verb: Verb, words: &Words, start: usize) -> Result<Seen, u64>
     requires { start ≤ length words.now }
-    ensures all { IfOk result (λ seen. IsTaken Count (drop start words.now) seen) }
-    ensures place { IfErr result (λ place. IsStop Count words.now start place) }
+    ensures all { IfOk result (λ seen. IsTaken verb (drop start words.now) seen) }
+    ensures place { IfErr result (λ place. IsStop verb words.now start place) }
 {
     let mut seen = Seen::new();
     for i in start..words.len() {
-        match seen.take(words.word(i)) {
+        match seen.take(verb, words.word(i)) {
             Some(next) => seen = next,
             None => return Err(i as u64),
         }

@@ -1,14 +1,14 @@
--- How a run ends, status by status.
-use Rattle.std.specs.Prelude.{◌≡◌, ◌⊎◌, ℕ, ◌<◌, List, false, Option, Some, ⊤, Result, Ok, Err}
-use Rattle.std.specs.Io.KnownBytes.{Appends}
-use Rattle.definitions.specs.Values.{Field, field_of}
+-- How a command ends for its input, status by status.
+use Rattle.std.specs.Prelude.{◌≡◌, ◌⊎◌, ℕ, ◌<◌, ◌≤◌, ◌*◌, List, false, Option, Some, ⊤, Result, Ok, Err}
+use Rattle.definitions.specs.declared.Dims.{Dims}
+use Rattle.definitions.specs.Values.{Field}
 use Rattle.formats.specs.declared.Status.{Status}
 use Rattle.formats.specs.declared.Status.TheVariants.{Done, BadWords, BadHeader, Unsupported, TooLarge, Truncated, ReadFault, WriteFault, NoMemory}
-use Rattle.formats.specs.declared.Port.TheVariants.{Report}
 use Rattle.formats.specs.Volumes.{Volume}
 use Rattle.command_line.specs.Grammar.{Command, Reads, IsBadPlace}
-use Rattle.st_base.specs.Desk.{InputState, PortState, AppendsPart}
-use Rattle.stuff_cli.specs.Inputs.{Settings, outcome_of, count_text, IsLeft, BreaksOff}
+use Rattle.st_base.specs.Desk.{InputState}
+use Rattle.stuff_cli.specs.Inputs.{Settings, outcome_of, IsLeft, BreaksOff}
+use Rattle.stuff_cli.specs.Outputs.{field_from}
 
 -- a status that tells why an input is refused
 abbrev pub IsRefusal : Status → Type 0
@@ -33,8 +33,14 @@ ReadsInput (Err status) step text left = RefusesInput status step text left
 
 -- the same of the field of its volume
 abbrev pub ReadsField : Result Field Status → Settings → List ℕ → Option (List ℕ) → Type 0
-ReadsField (Ok f) s text left = (v : Volume) × (f ≡ field_of v.dims v.samples s.twice s.below) × ReadsInput (Ok v) s.step text left
+ReadsField (Ok f) s text left = (v : Volume) × (f ≡ field_from s v) × ReadsInput (Ok v) s.step text left
 ReadsField (Err status) s text left = RefusesInput status s.step text left
+
+-- the sizes with their step are those of an image within the limits
+pub record AreKept (step : ℕ) (d : Dims) : Type 0 where
+  pub nx : step * d.nx ≤ 8255
+  pub ny : step * d.ny ≤ 8255
+  pub nz : step * d.nz ≤ 8255
 
 -- the statuses that a told input gives where nothing fails
 abbrev pub IsOutcome : Status → Type 0
@@ -45,32 +51,33 @@ IsOutcome (TooLarge padded) = ⊤
 IsOutcome (Truncated got wanted) = ⊤
 IsOutcome status = ⊥
 
--- the statuses after which Report is as it was
-abbrev pub LeavesReport : Status → Type 0
-LeavesReport Done = ⊥
-LeavesReport (WriteFault port) = ⊥
-LeavesReport status = ⊤
-
 -- these bytes are left of the input, and the settings are these
 abbrev pub HoldsInput : Option (List ℕ) → Settings → List ℕ → Settings → Type 0
 HoldsInput left settings text s = (left ≡ Some text) × (s ≡ settings)
 
--- an input was refused, where `IsTold text s` says that its bytes and the settings are these
-pub record Refuses (status : Status) (IsTold : List ℕ → Settings → Type 0) (now : InputState) (before after : PortState) : Type 0 where
-  pub report : after ≡ before
+-- the input was read without fault, and what is told of it was refused; `IsTold text s` says that its bytes and the settings are these
+pub record Refuses (status : Status) (IsTold : List ℕ → Settings → Type 0) (now : InputState) : Type 0 where
   pub faults : now.faults ≡ 0
   pub told : (text : List ℕ) (s : Settings) → IsTold text s → RefusesInput status s.step text now.left
 
-abbrev pub Ends : Status → (List ℕ → Settings → Type 0) → InputState → PortState → PortState → Type 0
-Ends Done IsTold now before after =
-    (now.faults ≡ 0) × (after.faults ≡ 0)
-    × ((text : List ℕ) (s : Settings) → IsTold text s → ((outcome_of s.step text).status ≡ Done) × IsLeft text (outcome_of s.step text).taken now.left × Appends before.text after.text (count_text s (outcome_of s.step text).volume))
-Ends (WriteFault port) IsTold now before after =
-    (port ≡ Report) × (now.faults ≡ 0) × (0 < after.faults)
-    × ((text : List ℕ) (s : Settings) → IsTold text s → ((outcome_of s.step text).status ≡ Done) × IsLeft text (outcome_of s.step text).taken now.left × AppendsPart before.text after.text (count_text s (outcome_of s.step text).volume))
-Ends ReadFault IsTold now before after =
-    (after ≡ before) × (0 < now.faults) × ((text : List ℕ) (s : Settings) → IsTold text s → (now.is_open ≡ false) ⊎ BreaksOff s.step text now.left)
-Ends status IsTold now before after = Refuses status IsTold now before after
+-- the volume of the input was read
+pub record ReadsWhole (IsTold : List ℕ → Settings → Type 0) (now : InputState) : Type 0 where
+  pub faults : now.faults ≡ 0
+  pub told : (text : List ℕ) (s : Settings) → IsTold text s → ((outcome_of s.step text).status ≡ Done) × IsLeft text (outcome_of s.step text).taken now.left
+
+-- how a command leaves its input, status by status
+abbrev pub InputEnds : Status → (List ℕ → Settings → Type 0) → InputState → Type 0
+InputEnds Done IsTold now = ReadsWhole IsTold now
+InputEnds (WriteFault port) IsTold now = ReadsWhole IsTold now
+InputEnds ReadFault IsTold now = (0 < now.faults) × ((text : List ℕ) (s : Settings) → IsTold text s → (now.is_open ≡ false) ⊎ BreaksOff s.step text now.left)
+InputEnds status IsTold now = Refuses status IsTold now
+
+-- the statuses before any port is used
+abbrev pub LeavesPorts : Status → Type 0
+LeavesPorts Done = ⊥
+LeavesPorts (WriteFault port) = ⊥
+LeavesPorts NoMemory = ⊥
+LeavesPorts status = ⊤
 
 -- what the status of a run says of its words
 abbrev pub WordsEnd : Status → List (List ℕ) → Type 0

@@ -1,14 +1,12 @@
--- What a told input makes of `count`, where nothing fails and memory is there.
+-- What a told input comes to, where nothing fails and memory is there.
 use Rattle.std.specs.Prelude.{◌≡◌, ℕ, ◌+◌, ◌<◌, ◌≤◌, ◌⊎◌, List, [], length, drop, Bool, true, false, IsTrue, Option, Some, None, Result, Ok, Err, ℤ, slice_index_or}
-use Rattle.definitions.specs.Values.{field_of}
 use Rattle.formats.specs.declared.Status.{Status}
 use Rattle.formats.specs.declared.Status.TheVariants.{Done, TooLarge, Truncated}
 use Rattle.formats.specs.declared.HeadFault.{HeadFault}
 use Rattle.formats.specs.Faults.{status_of}
 use Rattle.formats.specs.Heads.{HeadAt, head_of, head_taken, ends_in_head}
 use Rattle.formats.specs.Volumes.{Volume, VolumeAnswer, Large, EndsEarly, Whole, volume_answer, wanted_bytes, first_limits}
-use Rattle.command_line.specs.Grammar.{Reads, CountSigns}
-use Rattle.formats.specs.Texts.{sign_line}
+use Rattle.command_line.specs.Grammar.{Command, Reads, CountSigns, MakeMesh}
 
 -- What an input comes to: a status, how many of its bytes are read, whether that is known only at its end, and the volume that it holds.
 pub record Outcome : Type 0 where
@@ -32,16 +30,20 @@ outcome_of_head step text (Ok h) = outcome_of_volume text h (volume_answer first
 unfoldable pub outcome_of : ℕ → List ℕ → Outcome
 outcome_of step text = outcome_of_head step text (head_of text)
 
--- What the words of `count` say besides the input: twice the level, whether the region lies below it, and each how many samples one is taken.
+-- What the words say of the input: twice the level, whether the region lies below it, and each how many samples one is taken.
 pub record Settings : Type 0 where
   pub twice : ℤ
   pub below : Bool
   pub step : ℕ
 
--- the line that is written for a volume
-abbrev pub count_text : Settings → Option Volume → List ℕ
-count_text s None = []
-count_text s (Some v) = sign_line (field_of v.dims v.samples s.twice s.below)
+abbrev pub settings_of : Command → Settings
+settings_of (CountSigns input level below step) = record { twice = level; below = below; step = step }
+settings_of (MakeMesh input output level below step shares plan) = record { twice = level; below = below; step = step }
+
+-- the name of the input
+abbrev pub input_name : List (List ℕ) → Command → List ℕ
+input_name words (CountSigns input level below step) = slice_index_or words input []
+input_name words (MakeMesh input output level below step shares plan) = slice_index_or words input []
 
 -- so many bytes of the text were read
 pub record IsLeft (text : List ℕ) (n : ℕ) (left : Option (List ℕ)) : Type 0 where
@@ -56,6 +58,7 @@ pub record BreaksOff (step : ℕ) (text : List ℕ) (left : Option (List ℕ)) :
 
 -- the words say these settings, and name an input whose bytes are told
 pub record IsInput (words : List (List ℕ)) (held : List ℕ → Option (List ℕ)) (text : List ℕ) (s : Settings) : Type 0 where
-  pub input : ℕ
-  pub reads : Reads words (CountSigns input s.twice s.below s.step)
-  pub told : held (slice_index_or words input []) ≡ Some text
+  pub command : Command
+  pub reads : Reads words command
+  pub settings : s ≡ settings_of command
+  pub told : held (input_name words command) ≡ Some text

@@ -2,6 +2,10 @@
 pub const HELP: &str = "\
 stuff: tetrahedral meshes of volumes, by isosurface stuffing
 
+  mesh IN OUT level=L [below=yes] [step=S] [long=A] [short=B]
+       [workers=W] [slab=T]
+              fill the region above the level with tetrahedra: write OUT.node
+              and OUT.ele (TetGen), and the numbers of nodes and tetrahedra
   count IN level=L [below=yes] [step=S]
               count the lattice vertices above, on and below the level
   --help      print this
@@ -15,6 +19,12 @@ compressed, and its data in the same file.
   below=yes the region lies below the level (default: above it)
   step=S    of the samples on each axis keep each S-th, S from 1 to 64
             (default 1)
+  long=A, short=B
+            a vertex is moved onto a cut of the surface that is at most A or
+            B of 4096 parts of a long or short edge away: A up to 1023, B up
+            to 2047 (default 1023 and 1687)
+  workers=W, slab=T
+            1 to 64 each (default 4); read, and without effect so far
 
 Status:
   0  done

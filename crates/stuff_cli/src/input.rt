@@ -1,9 +1,9 @@
-ghost use Rattle.std.specs.Prelude.{◌≡◌, ◌≢◌, ◌≤◌, ◌<◌, ℕ, List, true, Some, Ok, Err, IfErr, IsErrOf};
+ghost use Rattle.std.specs.Prelude.{◌≡◌, ◌≢◌, ◌≤◌, ◌<◌, ℕ, List, true, Some, Ok, Err, IfOk, IfErr, IsErrOf};
 ghost use Rattle.definitions.specs.Values.{Field as FieldValue};
 ghost use Rattle.formats.specs.Faults.{status_of};
 ghost use Rattle.formats.specs.declared.Port.{Port};
 ghost use Rattle.st_base.specs.Causes.{Rose};
-ghost use Rattle.stuff_cli.specs.Ends.{IsRefusal, ReadsInput, ReadsField};
+ghost use Rattle.stuff_cli.specs.Ends.{AreKept, IsRefusal, ReadsInput, ReadsField};
 ghost use Rattle.stuff_cli.specs.Refusals.{status_of_volume};
 
 use mha_read::{VolFault, read_head, read_volume};
@@ -39,6 +39,7 @@ pub fn read_input<D: Desk>(alloc: Global, desk: &mut D, step: u32) -> Result<Vol
     requires step_bound { step ≤ 64 }
     requires is_open { (D.input desk.old).is_open ≡ true }
     ensures told { (text : List ℕ) → (D.input desk.old).left ≡ Some text → ReadsInput result step text (D.input desk.new).left }
+    ensures sizes { IfOk result (λ v. AreKept step v.dims) }
     ensures refusal { IfErr result IsRefusal }
     ensures fault { IsErrOf result Status.ReadFault → Rose (D.input desk.old).faults (D.input desk.new).faults }
     ensures none { result ≢ Err Status.ReadFault → (D.input desk.new).faults ≡ (D.input desk.old).faults }
@@ -69,6 +70,7 @@ pub fn read_field<D: Desk>(
     requires step_bound { step ≤ 64 }
     requires is_open { (D.input desk.old).is_open ≡ true }
     ensures told { (text : List ℕ) → (D.input desk.old).left ≡ Some text → ReadsField result (record { twice = level; below = below; step = step }) text (D.input desk.new).left }
+    ensures sizes { IfOk result (λ f. AreKept step f.dims) }
     ensures refusal { IfErr result IsRefusal }
     ensures fault { IsErrOf result Status.ReadFault → Rose (D.input desk.old).faults (D.input desk.new).faults }
     ensures none { result ≢ Err Status.ReadFault → (D.input desk.new).faults ≡ (D.input desk.old).faults }

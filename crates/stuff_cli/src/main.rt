@@ -3,17 +3,18 @@
 
 ghost use Rattle.std.specs.Prelude.{◌≡◌, IsSome, length};
 
+mod files;
 mod help;
 mod input;
-mod put;
+mod mesh;
 mod run;
 mod signs;
 mod trouble;
 
 use crate::help::{HELP, VERSION};
 use desk_std::StdDesk;
+pub use files::write_report;
 pub use input::{read_field, read_input};
-pub use put::{WriteFault, put_all};
 pub use run::stuff;
 pub use signs::sign_text;
 use st_base::{NoMemory, OpenGate, Port, Status, Words};

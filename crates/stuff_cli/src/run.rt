@@ -1,48 +1,56 @@
-ghost use Rattle.std.specs.Prelude.{◌≡◌, ◌≢◌, ◌⊎◌, ◌↔◌, ◌<◌, ◌≤◌, ℕ, List, [], false, true, slice_index_or};
+ghost use Rattle.std.specs.Prelude.{◌≡◌, ◌≢◌, ◌⊎◌, ◌↔◌, ◌<◌, ◌≤◌, ℕ, List, [], false, true, length, IfSome};
 ghost use Rattle.std.specs.Io.KnownBytes.{Appends};
 ghost use Rattle.formats.specs.Faults.{trouble_text};
-ghost use Rattle.command_line.specs.Grammar.{Reads, CountSigns, IsBadPlace};
+ghost use Rattle.command_line.specs.Grammar.{Command as Meaning, Reads, IsBadPlace};
+ghost use Rattle.command_words.specs.Commands.{meaning_of, mesh_of, step_of};
 ghost use Rattle.formats.specs.declared.Port.{Port};
-ghost use Rattle.formats.specs.declared.Port.TheVariants.{Report, Trouble};
-ghost use Rattle.st_base.specs.Desk.{IsStart, IsFile, MayTry, with_name, AppendsPart};
-ghost use Rattle.stuff_cli.specs.Inputs.{Settings, IsInput, IsLeft, BreaksOff, outcome_of, count_text};
-ghost use Rattle.stuff_cli.specs.Ends.{Ends, WordsEnd, IsOutcome, LeavesReport, HoldsInput};
+ghost use Rattle.formats.specs.declared.Port.TheVariants.{Node, Ele, Report, Trouble};
+ghost use Rattle.st_base.specs.Desk.{IsStart, AppendsPart};
+ghost use Rattle.stuff_cli.specs.Inputs.{Settings, settings_of, input_name, IsInput, IsLeft, BreaksOff, outcome_of};
+ghost use Rattle.stuff_cli.specs.Outputs.{has_files, file_name, output_names, all_names, IsTextOf};
+ghost use Rattle.stuff_cli.specs.Ports.{PortsEnd, HasWritten, TellsFault};
+ghost use Rattle.stuff_cli.specs.Writing.{GrowsAlong, with_names};
+ghost use Rattle.stuff_cli.specs.Ends.{InputEnds, WordsEnd, IsOutcome, LeavesPorts, HoldsInput};
 
 use crate::input::read_field;
-use crate::put::{WriteFault, put_all};
-use crate::signs::sign_text;
+use crate::mesh::mesh_field;
+use crate::signs::write_signs;
 use crate::trouble::tell;
-use command_words::read_words;
-use samples::Level;
-use st_base::{Desk, Failed, Gate, NoMemory, Port, Status, Words};
+use command_words::{Command, read_words};
+use st_base::{Desk, Failed, Gate, Status, Words};
 use std::alloc::Global;
 use std::thread::Threads;
 
-// Counts the signs of the open input, and writes their line to Report.
-fn count<D: Desk>(alloc: Global, desk: &mut D, level: Level, below: bool, step: u32) -> Status
-    requires step { 1 ≤ step }
-    requires step_bound { step ≤ 64 }
+// Does a command's work on the open input.
+fn work<D: Desk>(alloc: Global, words: &Words, desk: &mut D, command: &Command) -> Status
+    requires step { 1 ≤ step_of command.now }
+    requires step_bound { step_of command.now ≤ 64 }
+    requires output { IfSome (mesh_of command.now) (λ m. m.output < length words.now) }
     requires is_open { (D.input desk.old).is_open ≡ true }
     requires no_input_fault { (D.input desk.old).faults ≡ 0 }
-    requires report_open { (D.ports desk.old Report).is_open ≡ true }
-    requires no_report_fault { (D.ports desk.old Report).faults ≡ 0 }
-    ensures ends { Ends result (HoldsInput (D.input desk.old).left (record { twice = level; below = below; step = step })) (D.input desk.new) (D.ports desk.old Report) (D.ports desk.new Report) }
+    requires node { (D.ports desk.old Node).is_open ≡ false }
+    requires ele { (D.ports desk.old Ele).is_open ≡ false }
+    requires report { (D.ports desk.old Report).is_open ≡ true }
+    requires no_fault { (p : Port) → p ≢ Trouble → (D.ports desk.old p).faults ≡ 0 }
+    ensures input { InputEnds result (HoldsInput (D.input desk.old).left (settings_of (meaning_of command.now))) (D.input desk.new) }
+    ensures ports { PortsEnd D.ports result (has_files (meaning_of command.now)) (file_name words.now (meaning_of command.now)) (IsTextOf (D.input desk.old).left (meaning_of command.now)) desk.old desk.new }
     ensures words { (place : ℕ) → result ≢ Status.BadWords place }
-    ensures others { (p : Port) → p ≢ Report → D.ports desk.new p ≡ D.ports desk.old p }
-    ensures tried { D.tried desk.new ≡ D.tried desk.old }
+    ensures tries { GrowsAlong (output_names words.now (meaning_of command.now)) (D.tried desk.old) (D.tried desk.new) }
+    ensures all_tried { result ≡ Status.Done → D.tried desk.new ≡ with_names (D.tried desk.old) (output_names words.now (meaning_of command.now)) }
+    ensures trouble { D.ports desk.new Trouble ≡ D.ports desk.old Trouble }
     ensures held { (n : List ℕ) → D.held desk.new n ≡ D.held desk.old n }
 {
-    let field = match read_field(alloc, desk, level, below, step) {
+    let step = command.step();
+    let field = match read_field(alloc, desk, command.level(), command.below(), step) {
         Ok(field) => field,
         Err(status) => return status,
     };
-    let text = match sign_text(alloc, &field) {
-        Ok(text) => text,
-        Err(NoMemory) => return Status::NoMemory,
-    };
-    match put_all(desk, Port::Report, &text) {
-        Ok(()) => Status::Done,
-        Err(WriteFault) => Status::WriteFault { port: Port::Report },
+    match command.mesh() {
+        Some(mesh) => {
+            let output = words.word(mesh.output);
+            mesh_field(alloc, desk, output, &field, mesh.shares, step)
+        }
+        None => write_signs(alloc, desk, &field),
     }
 }
 
@@ -50,26 +58,22 @@ fn count<D: Desk>(alloc: Global, desk: &mut D, level: Level, below: bool, step: 
 fn run<D: Desk>(alloc: Global, words: &Words, desk: &mut D) -> Status
     requires { IsStart (D.input desk.old) (D.ports desk.old) (D.tried desk.old) }
     ensures words { WordsEnd result words.now }
-    ensures ends { Ends result (IsInput words.now (D.held desk.old)) (D.input desk.new) (D.ports desk.old Report) (D.ports desk.new Report) }
-    ensures others { (p : Port) → p ≢ Report → D.ports desk.new p ≡ D.ports desk.old p }
-    ensures tried { (input : ℕ) (s : Settings) → Reads words.now (CountSigns input s.twice s.below s.step) → MayTry (D.tried desk.old) (D.tried desk.new) (slice_index_or words.now input []) }
-    ensures all_tried { result ≡ Status.Done → (input : ℕ) (s : Settings) → Reads words.now (CountSigns input s.twice s.below s.step) →
-        D.tried desk.new ≡ with_name (D.tried desk.old) (slice_index_or words.now input []) }
+    ensures input { InputEnds result (IsInput words.now (D.held desk.old)) (D.input desk.new) }
+    ensures ports { (c : Meaning) → Reads words.now c → PortsEnd D.ports result (has_files c) (file_name words.now c) (IsTextOf (D.held desk.old (input_name words.now c)) c) desk.old desk.new }
+    ensures unread { (place : ℕ) → result ≡ Status.BadWords place → (p : Port) → D.ports desk.new p ≡ D.ports desk.old p }
+    ensures trouble { D.ports desk.new Trouble ≡ D.ports desk.old Trouble }
+    ensures tried { (c : Meaning) → Reads words.now c → GrowsAlong (all_names words.now c) (D.tried desk.old) (D.tried desk.new) }
+    ensures all_tried { result ≡ Status.Done → (c : Meaning) → Reads words.now c → D.tried desk.new ≡ with_names (D.tried desk.old) (all_names words.now c) }
     ensures none_tried { (place : ℕ) → result ≡ Status.BadWords place → D.tried desk.new ≡ D.tried desk.old }
     ensures held { (n : List ℕ) → D.held desk.new n ≡ D.held desk.old n }
 {
-    match read_words(words) {
-        Ok(command) => match desk.open_input(words.word(command.input())) {
-            Ok(()) => count(
-                alloc,
-                desk,
-                command.level(),
-                command.below(),
-                command.step(),
-            ),
-            Err(Failed) => Status::ReadFault,
-        },
-        Err(place) => Status::BadWords { place },
+    let command = match read_words(words) {
+        Ok(command) => command,
+        Err(place) => return Status::BadWords { place },
+    };
+    match desk.open_input(words.word(command.input())) {
+        Ok(()) => work(alloc, words, desk, &command),
+        Err(Failed) => Status::ReadFault,
     }
 }
 
@@ -77,8 +81,9 @@ fn run<D: Desk>(alloc: Global, words: &Words, desk: &mut D) -> Status
 ///
 /// `count IN level=L` writes to Report how many vertices of the lattice over the volume IN have a
 /// value above, on and below the level, or below, on and above it with `below=yes`; with `step=S` over
-/// each S-th sample on each axis alone. The runtime and the gate are for commands whose work is done
-/// by several workers.
+/// each S-th sample on each axis alone. `mesh IN OUT level=L` writes the tetrahedral mesh of the
+/// region above the level to OUT.node and OUT.ele, and to Report how many nodes and tetrahedra it has.
+/// The runtime and the gate are for work that is done by several workers.
 pub fn stuff<R: Threads + Sync, D: Desk + Send, G: Gate + Sync>(
     _rt: &R,
     alloc: Global,
@@ -91,12 +96,12 @@ pub fn stuff<R: Threads + Sync, D: Desk + Send, G: Gate + Sync>(
     // The causes that hold over every desk.
     ensures bad_words { (place : ℕ) → (result ≡ Status.BadWords place) ↔ IsBadPlace words.now place }
     ensures read_fault { (result ≡ Status.ReadFault) ↔ (0 < (D.input desk.new).faults) }
-    ensures write_fault { (result ≡ Status.WriteFault Report) ↔ (0 < (D.ports desk.new Report).faults) }
-    ensures report_alone { (port : Port) → result ≡ Status.WriteFault port → port ≡ Report }
+    ensures write_fault { (port : Port) → port ≢ Trouble → (result ≡ Status.WriteFault port) ↔ (0 < (D.ports desk.new port).faults) }
+    ensures not_trouble { result ≢ Status.WriteFault Trouble }
 
     // The status of a told input: no other one of its kind comes, and it does come where nothing fails and memory is there.
     ensures outcome { (text : List ℕ) (s : Settings) → IsInput words.now (D.held desk.old) text s → IsOutcome result → result ≡ (outcome_of s.step text).status }
-    ensures completes { (text : List ℕ) (s : Settings) → IsInput words.now (D.held desk.old) text s → (D.input desk.new).faults ≡ 0 → (D.ports desk.new Report).faults ≡ 0 →
+    ensures completes { (text : List ℕ) (s : Settings) → IsInput words.now (D.held desk.old) text s → (D.input desk.new).faults ≡ 0 → ((p : Port) → p ≢ Trouble → (D.ports desk.new p).faults ≡ 0) →
         (result ≡ (outcome_of s.step text).status) ⊎ (result ≡ Status.NoMemory) }
 
     // What is read of a told input.
@@ -106,20 +111,16 @@ pub fn stuff<R: Threads + Sync, D: Desk + Send, G: Gate + Sync>(
         ((D.input desk.new).is_open ≡ false) ⊎ BreaksOff s.step text (D.input desk.new).left }
 
     // What stands on the ports.
-    ensures written { result ≡ Status.Done → (text : List ℕ) (s : Settings) → IsInput words.now (D.held desk.old) text s →
-        Appends (D.ports desk.old Report).text (D.ports desk.new Report).text (count_text s (outcome_of s.step text).volume) }
-    ensures written_part { (port : Port) → result ≡ Status.WriteFault port → (text : List ℕ) (s : Settings) → IsInput words.now (D.held desk.old) text s →
-        AppendsPart (D.ports desk.old Report).text (D.ports desk.new Report).text (count_text s (outcome_of s.step text).volume) }
-    ensures report_left { LeavesReport result → D.ports desk.new Report ≡ D.ports desk.old Report }
-    ensures files_left { (p : Port) → IsFile p → D.ports desk.new p ≡ D.ports desk.old p }
+    ensures written { result ≡ Status.Done → (c : Meaning) → Reads words.now c → HasWritten D.ports (has_files c) (file_name words.now c) (IsTextOf (D.held desk.old (input_name words.now c)) c) desk.old desk.new }
+    ensures ports { (c : Meaning) → Reads words.now c → PortsEnd D.ports result (has_files c) (file_name words.now c) (IsTextOf (D.held desk.old (input_name words.now c)) c) desk.old desk.new }
+    ensures ports_left { LeavesPorts result → (p : Port) → p ≢ Trouble → D.ports desk.new p ≡ D.ports desk.old p }
     ensures trouble_part { AppendsPart (D.ports desk.old Trouble).text (D.ports desk.new Trouble).text (trouble_text result) }
     ensures trouble_whole { (D.ports desk.new Trouble).faults ≡ 0 → Appends (D.ports desk.old Trouble).text (D.ports desk.new Trouble).text (trouble_text result) }
     ensures quiet { result ≡ Status.Done → D.ports desk.new Trouble ≡ D.ports desk.old Trouble }
 
     // Which files were opened.
-    ensures tried { (input : ℕ) (s : Settings) → Reads words.now (CountSigns input s.twice s.below s.step) → MayTry (D.tried desk.old) (D.tried desk.new) (slice_index_or words.now input []) }
-    ensures all_tried { result ≡ Status.Done → (input : ℕ) (s : Settings) → Reads words.now (CountSigns input s.twice s.below s.step) →
-        D.tried desk.new ≡ with_name (D.tried desk.old) (slice_index_or words.now input []) }
+    ensures tried { (c : Meaning) → Reads words.now c → GrowsAlong (all_names words.now c) (D.tried desk.old) (D.tried desk.new) }
+    ensures all_tried { result ≡ Status.Done → (c : Meaning) → Reads words.now c → D.tried desk.new ≡ with_names (D.tried desk.old) (all_names words.now c) }
     ensures none_tried { (place : ℕ) → result ≡ Status.BadWords place → D.tried desk.new ≡ D.tried desk.old }
     ensures held { (n : List ℕ) → D.held desk.new n ≡ D.held desk.old n }
 {

@@ -1,10 +1,15 @@
-ghost use Rattle.std.specs.Prelude.{◌≡◌, ◌++◌, ℕ, List, IfOk, OnOk, decimal};
+ghost use Rattle.std.specs.Prelude.{◌≡◌, ◌≢◌, ◌++◌, ℕ, List, true, false, IfOk, OnOk, decimal};
+ghost use Rattle.formats.specs.declared.Port.{Port};
+ghost use Rattle.formats.specs.declared.Port.TheVariants.{Report, Trouble};
+ghost use Rattle.stuff_cli.specs.Ports.{IsAtOutput, PortsEnd};
+ghost use Rattle.stuff_cli.specs.Outputs.{signs_text};
 ghost use Rattle.formats.specs.Texts.{sign_line};
 ghost use Rattle.stuff_cli.specs.Signs.{signs_line};
 
+use crate::files::write_report;
 use itoa::Buffer;
 use samples::{Field, Signs, count_signs};
-use st_base::NoMemory;
+use st_base::{Desk, NoMemory, Status};
 use std::alloc::{AllocError, Global};
 
 // A text, and then a number.
@@ -37,5 +42,22 @@ pub fn sign_text(alloc: Global, field: &Field) -> Result<Vec<u8>, NoMemory>
     match line_of(alloc, count_signs(field)) {
         Ok(text) => Ok(text),
         Err(_) => Err(NoMemory),
+    }
+}
+
+/// Writes the line of a field's signs to Report.
+pub fn write_signs<D: Desk>(alloc: Global, desk: &mut D, field: &Field) -> Status
+    requires report { (D.ports desk.old Report).is_open ≡ true }
+    requires faults { (p : Port) → p ≢ Trouble → (D.ports desk.old p).faults ≡ 0 }
+    ensures kind { IsAtOutput result }
+    ensures ends { (name : Port → List ℕ) → PortsEnd D.ports result false name (λ p text. text ≡ signs_text field.now p) desk.old desk.new }
+    ensures tried { D.tried desk.new ≡ D.tried desk.old }
+    ensures input { D.input desk.new ≡ D.input desk.old }
+    ensures others { (p : Port) → p ≢ Report → D.ports desk.new p ≡ D.ports desk.old p }
+    ensures held { (n : List ℕ) → D.held desk.new n ≡ D.held desk.old n }
+{
+    match sign_text(alloc, field) {
+        Ok(text) => write_report(desk, &text),
+        Err(NoMemory) => Status::NoMemory,
     }
 }

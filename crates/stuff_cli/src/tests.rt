@@ -336,6 +336,12 @@ fn refuses_words(rt: HostRuntime) -> Result<(), Fail> {
     for (texts, place, line) in [
         ([].as_slice(), 0, "stuff: bad words at 0\n"),
         (["meet", "a"].as_slice(), 0, "stuff: bad words at 0\n"),
+        (["mesh", "a"].as_slice(), 2, "stuff: bad words at 2\n"),
+        (
+            ["mesh", "a", "out", "level=1", "level=2"].as_slice(),
+            4,
+            "stuff: bad words at 4\n",
+        ),
         (["count", ""].as_slice(), 1, "stuff: bad words at 1\n"),
         (
             ["count", "one.mha"].as_slice(),
@@ -387,6 +393,7 @@ fn refuses_words(rt: HostRuntime) -> Result<(), Fail> {
         let mut desk = MemDesk::new(alloc);
         let status = stuff(&rt, alloc, &words, &mut desk, &OpenGate);
         assert_eq!(rt; status, Status::BadWords { place });
+        assert_eq!(rt; desk.text(Port::Node), b"".as_slice());
         assert_eq!(rt; desk.text(Port::Report), b"".as_slice());
         assert_eq!(rt; desk.text(Port::Trouble), line.as_bytes());
     }
@@ -488,5 +495,312 @@ fn tells_a_name_that_is_not_there(rt: HostRuntime) -> Result<(), Fail> {
         Status::ReadFault
     );
     assert_eq!(rt; desk.text(Port::Trouble), b"stuff: read fault\n".as_slice());
+    Ok(())
+}
+
+// The nodes of one sample above the level.
+const ONE_NODE: &str = "15 3 0 0
+0 0.0000000000000 0.0000000000000 -0.5000000000000
+1 -0.2857666015625 -0.2857666015625 -0.2857666015625
+2 0.2857666015625 -0.2857666015625 -0.2857666015625
+3 -0.2857666015625 0.2857666015625 -0.2857666015625
+4 0.2857666015625 0.2857666015625 -0.2857666015625
+5 0.0000000000000 -0.5000000000000 0.0000000000000
+6 -0.5000000000000 0.0000000000000 0.0000000000000
+7 0.0000000000000 0.0000000000000 0.0000000000000
+8 0.5000000000000 0.0000000000000 0.0000000000000
+9 0.0000000000000 0.5000000000000 0.0000000000000
+10 -0.2857666015625 -0.2857666015625 0.2857666015625
+11 0.2857666015625 -0.2857666015625 0.2857666015625
+12 -0.2857666015625 0.2857666015625 0.2857666015625
+13 0.2857666015625 0.2857666015625 0.2857666015625
+14 0.0000000000000 0.0000000000000 0.5000000000000
+";
+
+// Its tetrahedra.
+const ONE_ELE: &str = "24 4 0
+0 0 1 2 7
+1 0 1 7 3
+2 0 2 4 7
+3 0 3 7 4
+4 1 2 7 5
+5 1 3 6 7
+6 1 5 7 10
+7 1 6 10 7
+8 2 4 7 8
+9 2 5 11 7
+10 2 7 11 8
+11 3 4 9 7
+12 3 6 7 12
+13 3 7 9 12
+14 4 7 8 13
+15 4 7 13 9
+16 5 7 10 11
+17 6 7 12 10
+18 7 8 13 11
+19 7 9 12 13
+20 7 10 11 14
+21 7 10 14 12
+22 7 11 13 14
+23 7 12 14 13
+";
+
+#[test]
+fn meshes_one_sample(rt: HostRuntime) -> Result<(), Fail> {
+    let alloc = rt.alloc();
+    for (element, sample, texts, most) in [
+        (
+            "MET_UCHAR",
+            b"\x01".as_slice(),
+            ["mesh", "a", "out", "level=0.5"].as_slice(),
+            usize::MAX,
+        ),
+        (
+            "MET_UCHAR",
+            b"\x01".as_slice(),
+            ["mesh", "a", "out", "level=0.5"].as_slice(),
+            1,
+        ),
+        (
+            "MET_CHAR",
+            b"\xff".as_slice(),
+            [
+                "mesh",
+                "a",
+                "out",
+                "workers=64",
+                "below=yes",
+                "slab=1",
+                "level=-0.5",
+            ]
+            .as_slice(),
+            usize::MAX,
+        ),
+    ] {
+        let words = words_of(alloc, texts)?;
+        let mut desk = MemDesk::new(alloc);
+        desk.put_input(b"a", &volume(alloc, element, "1 1 1", sample)?)?;
+        desk.at_most(most);
+        let status = stuff(&rt, alloc, &words, &mut desk, &OpenGate);
+        assert_eq!(rt; status, Status::Done, "at {element}");
+        assert_eq!(rt; desk.text(Port::Node), ONE_NODE.as_bytes(), "at {element}");
+        assert_eq!(rt; desk.text(Port::Ele), ONE_ELE.as_bytes(), "at {element}");
+        assert_eq!(rt;
+            desk.text(Port::Report),
+            b"nodes 15\ntetrahedra 24\n".as_slice()
+        );
+        assert_eq!(rt; desk.text(Port::Trouble), b"".as_slice());
+    }
+    Ok(())
+}
+
+#[test]
+fn meshes_volumes(rt: HostRuntime) -> Result<(), Fail> {
+    let alloc = rt.alloc();
+    for (element, sizes, samples, texts, nodes, report) in [
+        (
+            "MET_UCHAR",
+            "1 1 1",
+            b"\x01".as_slice(),
+            ["mesh", "a", "out", "level=1"].as_slice(),
+            "0 3 0 0\n",
+            "nodes 0\ntetrahedra 0\n",
+        ),
+        (
+            "MET_UCHAR",
+            "2 1 1",
+            b"\x01\x01".as_slice(),
+            ["mesh", "a", "out", "level=0.5"].as_slice(),
+            "24 3 0 0\n0 0.0000000000000 0.0000000000000 -0.5000000000000\n1 1.0000000000000 0.0000000000000 -0.5000000000000\n2 -0.2857666015625 -0.2857666015625 -0.2857666015625\n3 0.3333740234375 -0.3333740234375 -0.3333740234375\n4 1.2857666015625 -0.2857666015625 -0.2857666015625\n",
+            "nodes 24\ntetrahedra 44\n",
+        ),
+        (
+            "MET_UCHAR",
+            "3 1 1",
+            b"\x01\x00\x01".as_slice(),
+            ["mesh", "a", "out", "level=0.5", "step=2"].as_slice(),
+            "24 3 0 0\n0 0.0000000000000 0.0000000000000 -1.0000000000000\n1 2.0000000000000 0.0000000000000 -1.0000000000000\n2 -0.5715332031250 -0.5715332031250 -0.5715332031250\n3 0.6667480468750 -0.6667480468750 -0.6667480468750\n4 2.5715332031250 -0.5715332031250 -0.5715332031250\n",
+            "nodes 24\ntetrahedra 44\n",
+        ),
+        (
+            "MET_UCHAR",
+            "2 1 1",
+            b"\x01\x01".as_slice(),
+            ["mesh", "a", "out", "short=0", "level=0.5"].as_slice(),
+            "28 3 0 0\n",
+            "nodes 28\ntetrahedra 52\n",
+        ),
+        (
+            "MET_UCHAR",
+            "2 2 2",
+            b"\x01\x01\x01\x01\x01\x01\x01\x01".as_slice(),
+            ["mesh", "a", "out", "level=0.5"].as_slice(),
+            "59 3 0 0\n",
+            "nodes 59\ntetrahedra 144\n",
+        ),
+        (
+            "MET_SHORT",
+            "2 1 1",
+            b"\x01\x00\xe0\xb1".as_slice(),
+            ["mesh", "a", "out", "level=0.5", "long=0", "short=0"].as_slice(),
+            "0 3 0 0\n",
+            "nodes 0\ntetrahedra 0\n",
+        ),
+    ] {
+        let words = words_of(alloc, texts)?;
+        let mut desk = MemDesk::new(alloc);
+        desk.put_input(b"a", &volume(alloc, element, sizes, samples)?)?;
+        let status = stuff(&rt, alloc, &words, &mut desk, &OpenGate);
+        assert_eq!(rt; status, Status::Done, "at {report}");
+        assert!(rt;
+            desk.text(Port::Node).starts_with(nodes.as_bytes()),
+            "at {report}"
+        );
+        assert_eq!(rt; desk.text(Port::Report), report.as_bytes());
+    }
+    Ok(())
+}
+
+// Whether some part of a text is this one.
+fn has(text: &[u8], part: &[u8]) -> bool {
+    for i in 0..text.len() {
+        if text[i..].starts_with(part) {
+            return true;
+        }
+    }
+    false
+}
+
+#[test]
+fn moves_a_centre_onto_the_surface(rt: HostRuntime) -> Result<(), Fail> {
+    let alloc = rt.alloc();
+    let words = words_of(alloc, &["mesh", "a", "out", "level=0.5"])?;
+    let mut desk = MemDesk::new(alloc);
+    let samples = b"\x02\x02\x02\x02\xfe\xfe\xfe\xfe".as_slice();
+    desk.put_input(b"a", &volume(alloc, "MET_CHAR", "2 2 2", samples)?)?;
+    let status = stuff(&rt, alloc, &words, &mut desk, &OpenGate);
+    assert_eq!(rt; status, Status::Done);
+    let inner = b" 0.3750000000000 0.3750000000000 0.3750000000000\n".as_slice();
+    assert!(rt; has(desk.text(Port::Node), inner));
+    let unmoved = b" 0.5000000000000 0.5000000000000 0.5000000000000\n".as_slice();
+    assert!(rt; !has(desk.text(Port::Node), unmoved));
+    Ok(())
+}
+
+#[test]
+fn meshes_in_both_byte_orders(rt: HostRuntime) -> Result<(), Fail> {
+    let alloc = rt.alloc();
+    let words = words_of(alloc, &["mesh", "a", "out", "level=-300"])?;
+    let mut least = MemDesk::new(alloc);
+    least.put_input(b"a", &box_of_shorts(alloc, false)?)?;
+    let mut most = MemDesk::new(alloc);
+    most.put_input(b"a", &box_of_shorts(alloc, true)?)?;
+    assert_eq!(rt;
+        stuff(&rt, alloc, &words, &mut least, &OpenGate),
+        Status::Done
+    );
+    assert_eq!(rt;
+        stuff(&rt, alloc, &words, &mut most, &OpenGate),
+        Status::Done
+    );
+    assert_eq!(rt;
+        least.text(Port::Report),
+        b"nodes 75221\ntetrahedra 406248\n".as_slice()
+    );
+    assert_eq!(rt; least.text(Port::Node), most.text(Port::Node));
+    assert_eq!(rt; least.text(Port::Ele), most.text(Port::Ele));
+    assert_eq!(rt; least.text(Port::Report), most.text(Port::Report));
+    Ok(())
+}
+
+// Whether a desk's ports, from Node to Trouble, have these texts.
+fn holds(desk: &MemDesk, texts: [&str; 4]) -> bool {
+    desk.text(Port::Node) == texts[0].as_bytes()
+        && desk.text(Port::Ele) == texts[1].as_bytes()
+        && desk.text(Port::Report) == texts[2].as_bytes()
+        && desk.text(Port::Trouble) == texts[3].as_bytes()
+}
+
+#[test]
+fn tells_files_that_do_not_open(rt: HostRuntime) -> Result<(), Fail> {
+    let alloc = rt.alloc();
+    let words = words_of(alloc, &["mesh", "a", "out", "level=0.5"])?;
+    let mut desk = MemDesk::new(alloc);
+    desk.put_input(b"a", ONE)?;
+    desk.refuse_open(Port::Node);
+    let status = stuff(&rt, alloc, &words, &mut desk, &OpenGate);
+    assert_eq!(rt; status, Status::WriteFault { port: Port::Node });
+    assert!(rt; holds(&desk, ["", "", "", "stuff: write fault: node\n"]));
+    let mut desk = MemDesk::new(alloc);
+    desk.put_input(b"a", ONE)?;
+    desk.refuse_open(Port::Ele);
+    let status = stuff(&rt, alloc, &words, &mut desk, &OpenGate);
+    assert_eq!(rt; status, Status::WriteFault { port: Port::Ele });
+    assert!(rt; holds(&desk, ["", "", "", "stuff: write fault: ele\n"]));
+    Ok(())
+}
+
+#[test]
+fn writes_files_as_far_as_it_goes(rt: HostRuntime) -> Result<(), Fail> {
+    let alloc = rt.alloc();
+    let words = words_of(alloc, &["mesh", "a", "out", "level=0.5"])?;
+    let mut desk = MemDesk::new(alloc);
+    desk.put_input(b"a", ONE)?;
+    desk.refuse_finish(Port::Node);
+    let status = stuff(&rt, alloc, &words, &mut desk, &OpenGate);
+    assert_eq!(rt; status, Status::WriteFault { port: Port::Node });
+    assert!(rt; holds(&desk, [ONE_NODE, "", "", "stuff: write fault: node\n"]));
+    let mut desk = MemDesk::new(alloc);
+    desk.put_input(b"a", ONE)?;
+    desk.fail_output_after(Port::Ele, 10);
+    let status = stuff(&rt, alloc, &words, &mut desk, &OpenGate);
+    assert_eq!(rt; status, Status::WriteFault { port: Port::Ele });
+    assert!(rt;
+        holds(
+            &desk,
+            [ONE_NODE, "24 4 0\n0 0", "", "stuff: write fault: ele\n"]
+        )
+    );
+    let mut desk = MemDesk::new(alloc);
+    desk.put_input(b"a", ONE)?;
+    desk.fail_output_after(Port::Report, 9);
+    let status = stuff(&rt, alloc, &words, &mut desk, &OpenGate);
+    assert_eq!(rt; status, Status::WriteFault { port: Port::Report });
+    assert!(rt;
+        holds(
+            &desk,
+            [
+                ONE_NODE,
+                ONE_ELE,
+                "nodes 15\n",
+                "stuff: write fault: report\n"
+            ]
+        )
+    );
+    Ok(())
+}
+
+#[test]
+fn leaves_files_where_the_input_fails(rt: HostRuntime) -> Result<(), Fail> {
+    let alloc = rt.alloc();
+    let words = words_of(alloc, &["mesh", "a", "out", "level=0.5"])?;
+    let mut desk = MemDesk::new(alloc);
+    desk.put_input(b"a", ONE)?;
+    desk.fail_input_after(100);
+    let status = stuff(&rt, alloc, &words, &mut desk, &OpenGate);
+    assert_eq!(rt; status, Status::ReadFault);
+    assert_eq!(rt; desk.text(Port::Node), b"".as_slice());
+    assert_eq!(rt; desk.text(Port::Report), b"".as_slice());
+    let mut desk = MemDesk::new(alloc);
+    desk.put_input(b"a", ONE)?;
+    desk.refuse_input();
+    let status = stuff(&rt, alloc, &words, &mut desk, &OpenGate);
+    assert_eq!(rt; status, Status::ReadFault);
+    assert_eq!(rt; desk.text(Port::Ele), b"".as_slice());
+    let mut desk = MemDesk::new(alloc);
+    desk.put_input(b"a", &volume(alloc, "MET_UCHAR", "2 1 1", b"\x01")?)?;
+    let status = stuff(&rt, alloc, &words, &mut desk, &OpenGate);
+    assert_eq!(rt; status, Status::Truncated { got: 1, wanted: 2 });
+    assert_eq!(rt; desk.text(Port::Ele), b"".as_slice());
     Ok(())
 }

@@ -7,9 +7,9 @@ ghost use Rattle.formats.specs.declared.Status.TheVariants.{Done, Truncated};
 ghost use Rattle.st_base.specs.Desk.{AppendsPart};
 ghost use Rattle.std.specs.Io.KnownBytes.{Appends};
 
-use crate::put::put_all;
 use arrayvec::ArrayVec;
 use itoa::Buffer;
+use node_ele_write::put_all;
 use st_base::{Desk, HeadFault, Key, Port, Status};
 
 /// The longest line has 69 bytes.

@@ -1,4 +1,5 @@
 use Rattle.stuff_cli.proofs.ToldInputs.{head_refused, volume_read, volume_refused}
+use Rattle.stuff_cli.proofs.KeptSizes.{kept_within}
 use Rattle.stuff_cli.proofs.input.read_input.Goals as goal
 
 pub returns-in-Err-clause-told : goal.returns-in-Err-clause-told
@@ -14,3 +15,7 @@ returns-in-Err-read_volume-clause-told g c = λ text e.
     let a = c.in-Ok.ensures.told text e in
     rw c.volume_status.ensures
     (volume_refused c.args.step text c.first.result c.in-Ok.head a.0 c.in-Err-read_volume.fault _ c.first.ensures a.2 a.1 a.4.within c.in-Err-read_volume.ensures.follows (c.in-Err-read_volume.ensures.told text a.0.len a.4.left_is))
+
+pub returns-in-Ok-read_volume-clause-sizes : goal.returns-in-Ok-read_volume-clause-sizes
+returns-in-Ok-read_volume-clause-sizes g c =
+    kept_within c.args.step c.first.result c.in-Ok.head c.in-Ok-read_volume.volume.dims c.requires.step_bound c.first.ensures c.in-Ok.ensures.sizes c.in-Ok-read_volume.ensures.follows.0 c.in-Ok-read_volume.ensures.follows.1

@@ -1,54 +1,48 @@
-use Rattle.std.proofs.Common.{◌≢◌, ◌∙◌}
-use Rattle.formats.specs.declared.Port.TheVariants.{Report, Trouble}
-use Rattle.stuff_cli.specs.Inputs.{IsInput}
-use Rattle.stuff_cli.proofs.Endings.{bad_words_end, words_bad, ends_later, outcome_is, outcome_comes, outcome_read, whole_at_write_fault, part_at_write_fault, breaks_at_read_fault}
+use Rattle.std.proofs.Common.{◌∙◌, sym, subst, inl, inr}
+use Rattle.st_base.specs.Desk.{PortState}
+use Rattle.stuff_cli.specs.Inputs.{input_name}
+use Rattle.stuff_cli.specs.Outputs.{has_files, file_name, IsTextOf}
+use Rattle.stuff_cli.specs.Ports.{TellsFault}
+use Rattle.stuff_cli.proofs.InputEndings.{words_bad, bad_words_end, bad_or_read}
+use Rattle.stuff_cli.proofs.PortEnds.{tells_none, ends_later, ports_left, not_in_trouble}
 use Rattle.stuff_cli.proofs.run.stuff.Goals as goal
-
-unlike : Report ≢ Trouble
-unlike e = cc
 
 pub returns-clause-bad_words : goal.returns-clause-bad_words
 returns-clause-bad_words g c = λ place.
     (λ e. bad_words_end c.run-status.result c.args.words.now place c.run-status.ensures.words e, λ bad. words_bad c.run-status.result c.args.words.now place c.run-status.ensures.words bad)
 
-pub returns-clause-outcome : goal.returns-clause-outcome
-returns-clause-outcome g c =
-    outcome_is c.run-status.result (IsInput c.args.words.now (g.D.Desk.held c.args.desk.now)) (g.D.Desk.input c.tell.new.desk) (g.D.Desk.ports c.args.desk.now Report) (g.D.Desk.ports c.tell.new.desk Report)
-    (ends_later c.run-status.result (IsInput c.args.words.now (g.D.Desk.held c.args.desk.now)) _ (g.D.Desk.input c.tell.new.desk) (g.D.Desk.ports c.args.desk.now Report) _ (g.D.Desk.ports c.tell.new.desk Report)
-    c.tell.ensures.input (c.tell.ensures.others Report unlike) c.run-status.ensures.ends)
+pub returns-clause-write_fault : goal.returns-clause-write_fault
+returns-clause-write_fault g c = λ port t.
+    subst (λ (s : PortState). TellsFault c.run-status.result port s) (sym (c.tell.ensures.others port t))
+    (elim (bad_or_read c.run-status.result c.args.words.now c.run-status.ensures.words) [
+      | inl bad ↦ subst (λ (s : PortState). TellsFault c.run-status.result port s) (sym (c.run-status.ensures.unread bad.0 bad.1 port))
+          (tells_none g.D.Desk.ports c.run-status.result c.args.desk.now (λ p e. (let q = sym e ∙ bad.1 in cc)) (record { node = c.requires.node.faults; ele = c.requires.ele.faults; report = c.requires.report.faults }) port t)
+      | inr read ↦ (c.run-status.ensures.ports read.0 read.1).faults port t
+    ])
 
-pub returns-clause-completes : goal.returns-clause-completes
-returns-clause-completes g c =
-    outcome_comes c.run-status.result (IsInput c.args.words.now (g.D.Desk.held c.args.desk.now)) (g.D.Desk.input c.tell.new.desk) (g.D.Desk.ports c.args.desk.now Report) (g.D.Desk.ports c.tell.new.desk Report)
-    (ends_later c.run-status.result (IsInput c.args.words.now (g.D.Desk.held c.args.desk.now)) _ (g.D.Desk.input c.tell.new.desk) (g.D.Desk.ports c.args.desk.now Report) _ (g.D.Desk.ports c.tell.new.desk Report)
-    c.tell.ensures.input (c.tell.ensures.others Report unlike) c.run-status.ensures.ends)
+pub returns-clause-not_trouble : goal.returns-clause-not_trouble
+returns-clause-not_trouble g c = λ e.
+    elim (bad_or_read c.run-status.result c.args.words.now c.run-status.ensures.words) [
+      | inl bad ↦ (let q = sym e ∙ bad.1 in cc)
+      | inr read ↦ not_in_trouble g.D.Desk.ports c.run-status.result (has_files read.0) (file_name c.args.words.now read.0) (IsTextOf (g.D.Desk.held c.args.desk.now (input_name c.args.words.now read.0)) read.0) c.args.desk.now c.run-status.new.desk
+          (c.run-status.ensures.ports read.0 read.1) e
+    ]
 
-pub returns-clause-read : goal.returns-clause-read
-returns-clause-read g c =
-    outcome_read c.run-status.result (IsInput c.args.words.now (g.D.Desk.held c.args.desk.now)) (g.D.Desk.input c.tell.new.desk) (g.D.Desk.ports c.args.desk.now Report) (g.D.Desk.ports c.tell.new.desk Report)
-    (ends_later c.run-status.result (IsInput c.args.words.now (g.D.Desk.held c.args.desk.now)) _ (g.D.Desk.input c.tell.new.desk) (g.D.Desk.ports c.args.desk.now Report) _ (g.D.Desk.ports c.tell.new.desk Report)
-    c.tell.ensures.input (c.tell.ensures.others Report unlike) c.run-status.ensures.ends)
+pub returns-clause-ports : goal.returns-clause-ports
+returns-clause-ports g c = λ d r.
+    ends_later g.D.Desk.ports c.run-status.result (has_files d) (file_name c.args.words.now d) (IsTextOf (g.D.Desk.held c.args.desk.now (input_name c.args.words.now d)) d) c.args.desk.now c.run-status.new.desk c.tell.new.desk
+    c.tell.ensures.others (c.run-status.ensures.ports d r)
 
-pub returns-clause-read_whole : goal.returns-clause-read_whole
-returns-clause-read_whole g c = λ port.
-    whole_at_write_fault c.run-status.result port (IsInput c.args.words.now (g.D.Desk.held c.args.desk.now)) (g.D.Desk.input c.tell.new.desk) (g.D.Desk.ports c.args.desk.now Report) (g.D.Desk.ports c.tell.new.desk Report)
-    (ends_later c.run-status.result (IsInput c.args.words.now (g.D.Desk.held c.args.desk.now)) _ (g.D.Desk.input c.tell.new.desk) (g.D.Desk.ports c.args.desk.now Report) _ (g.D.Desk.ports c.tell.new.desk Report)
-    c.tell.ensures.input (c.tell.ensures.others Report unlike) c.run-status.ensures.ends)
-
-pub returns-clause-written_part : goal.returns-clause-written_part
-returns-clause-written_part g c = λ port.
-    part_at_write_fault c.run-status.result port (IsInput c.args.words.now (g.D.Desk.held c.args.desk.now)) (g.D.Desk.input c.tell.new.desk) (g.D.Desk.ports c.args.desk.now Report) (g.D.Desk.ports c.tell.new.desk Report)
-    (ends_later c.run-status.result (IsInput c.args.words.now (g.D.Desk.held c.args.desk.now)) _ (g.D.Desk.input c.tell.new.desk) (g.D.Desk.ports c.args.desk.now Report) _ (g.D.Desk.ports c.tell.new.desk Report)
-    c.tell.ensures.input (c.tell.ensures.others Report unlike) c.run-status.ensures.ends)
-
-pub returns-clause-breaks_off : goal.returns-clause-breaks_off
-returns-clause-breaks_off g c =
-    breaks_at_read_fault c.run-status.result (IsInput c.args.words.now (g.D.Desk.held c.args.desk.now)) (g.D.Desk.input c.tell.new.desk) (g.D.Desk.ports c.args.desk.now Report) (g.D.Desk.ports c.tell.new.desk Report)
-    (ends_later c.run-status.result (IsInput c.args.words.now (g.D.Desk.held c.args.desk.now)) _ (g.D.Desk.input c.tell.new.desk) (g.D.Desk.ports c.args.desk.now Report) _ (g.D.Desk.ports c.tell.new.desk Report)
-    c.tell.ensures.input (c.tell.ensures.others Report unlike) c.run-status.ensures.ends)
+pub returns-clause-ports_left : goal.returns-clause-ports_left
+returns-clause-ports_left g c = λ left p t.
+    c.tell.ensures.others p t
+    ∙ elim (bad_or_read c.run-status.result c.args.words.now c.run-status.ensures.words) [
+      | inl bad ↦ c.run-status.ensures.unread bad.0 bad.1 p
+      | inr read ↦ ports_left g.D.Desk.ports c.run-status.result (has_files read.0) (file_name c.args.words.now read.0) (IsTextOf (g.D.Desk.held c.args.desk.now (input_name c.args.words.now read.0)) read.0) c.args.desk.now c.run-status.new.desk
+          left (c.run-status.ensures.ports read.0 read.1) p t
+    ]
 
 pub returns-clause-tried : goal.returns-clause-tried
-returns-clause-tried g c = λ input s r. rw c.tell.ensures.tried (c.run-status.ensures.tried input s r)
-
-pub returns-clause-all_tried : goal.returns-clause-all_tried
-returns-clause-all_tried g c = λ e input s r. c.tell.ensures.tried ∙ c.run-status.ensures.all_tried e input s r
+returns-clause-tried g c = λ d r.
+    let grown = c.run-status.ensures.tried d r in
+    (grown.0, c.tell.ensures.tried ∙ grown.1)

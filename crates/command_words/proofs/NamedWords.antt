@@ -1,0 +1,153 @@
+-- Names of named words, and the one setting that a word reads as.
+use Rattle.std.proofs.Common.{◌≡◌, inl, inr, ℕ, ℤ, pos, ◌<◌, ◌^◌, List, [], ◌∷◌, ◌++◌, length, drop, codes, ◌+◌, slice_index_or, true, Option, Some, refl, ap, sym, ◌∙◌, subst, arith}
+use Rattle.std.specs.Prelude.{nat_eq, find}
+use Rattle.std.specs.List.{AllZip, starts_with}
+use Rattle.std.proofs.lemmas.Bool.{eq-eqb, eqb-true, cases_lt}
+use Rattle.std.proofs.lemmas.Fmt.{decimal_injective, decimal_digit}
+use Rattle.command_line.specs.declared.Name.{Name}
+use Rattle.command_line.specs.declared.Name.TheVariants.{Level, Below, Step, Long, Short, Workers, Slab}
+use Rattle.command_line.specs.Grammar.{Setting, ReadsSetting, IsNumber, IsValue, name_number, same_name, name_text}
+use Rattle.command_words.proofs.Decimals.{level_once}
+
+abbrev pub all_names : List Name
+all_names = Level ∷ Below ∷ Step ∷ Long ∷ Short ∷ Workers ∷ Slab ∷ []
+
+-- a name by its number
+pub name_at : (n other : Name) → slice_index_or all_names (name_number n) other ≡ n
+name_at Level other = refl
+name_at Below other = refl
+name_at Step other = refl
+name_at Long other = refl
+name_at Short other = refl
+name_at Workers other = refl
+name_at Slab other = refl
+
+pub name_below : (n : Name) → name_number n < 7
+name_below Level = omega arith
+name_below Below = omega arith
+name_below Step = omega arith
+name_below Long = omega arith
+name_below Short = omega arith
+name_below Workers = omega arith
+name_below Slab = omega arith
+
+same_some : {A : Type 0} (m n : A) → Some m ≡ Some n → m ≡ n
+same_some m n e = cc
+
+pub same_is : (m n : Name) → same_name m n ≡ true → m ≡ n
+same_is m n h = sym (name_at m Level) ∙ ap (λ (k : ℕ). slice_index_or all_names k Level) (eqb-true (name_number m) (name_number n) h) ∙ name_at n Level
+
+pub same_self : (n : Name) → same_name n n ≡ true
+same_self n = eq-eqb (name_number n) (name_number n) refl
+
+-- the name at the start of a word, and what stands behind it
+abbrev name_of : List ℕ → Option Name
+name_of w = find (λ n. starts_with nat_eq w (name_text n)) all_names
+
+name_reads : (n : Name) (text : List ℕ) → name_of (name_text n ++ text) ≡ Some n
+name_reads Level text = refl
+name_reads Below text = refl
+name_reads Step text = refl
+name_reads Long text = refl
+name_reads Short text = refl
+name_reads Workers text = refl
+name_reads Slab text = refl
+
+tail_reads : (n : Name) (text : List ℕ) → drop (length (name_text n)) (name_text n ++ text) ≡ text
+tail_reads Level text = refl
+tail_reads Below text = refl
+tail_reads Step text = refl
+tail_reads Long text = refl
+tail_reads Short text = refl
+tail_reads Workers text = refl
+tail_reads Slab text = refl
+
+-- a text is one value at most
+number_once : (low high : ℕ) (text : List ℕ) (a b : ℤ) → high < 2 ^ 64 → IsNumber low high text a → IsNumber low high text b → a ≡ b
+number_once low high text a b h (n, l, u, e, f) (m, k, v, g, i) = f ∙ ap pos (decimal_injective n m (omega arith) (omega arith) (sym e ∙ g)) ∙ sym i
+
+value_once : (n : Name) (text : List ℕ) (a b : ℤ) → IsValue n text a → IsValue n text b → a ≡ b
+value_once Level text a b p q = level_once text a b p q
+value_once Below text a b p q = p.1 ∙ sym q.1
+value_once Step text a b p q = number_once 1 64 text a b (omega arith) p q
+value_once Long text a b p q = number_once 0 1023 text a b (omega arith) p q
+value_once Short text a b p q = number_once 0 2047 text a b (omega arith) p q
+value_once Workers text a b p q = number_once 1 64 text a b (omega arith) p q
+value_once Slab text a b p q = number_once 1 64 text a b (omega arith) p q
+
+-- what a word that begins with a name reads as
+pub record IsNamed (n : Name) (text : List ℕ) (s : Setting) : Type 0 where
+  pub name_is : s.name ≡ n
+  pub value_is : IsValue n text s.value
+
+named : (n : Name) (w text : List ℕ) (s : Setting) → w ≡ name_text n ++ text → ReadsSetting w s → IsNamed n text s
+named n w text s e r =
+    let f : s.name ≡ n = same_some s.name n (sym (name_reads s.name r.text) ∙ ap name_of (sym r.word_is ∙ e) ∙ name_reads n text) in
+    let g : name_text n ++ r.text ≡ name_text n ++ text = subst (λ (m : Name). name_text m ++ r.text ≡ name_text n ++ text) f (sym r.word_is ∙ e) in
+    let t : r.text ≡ text = sym (tail_reads n r.text) ∙ ap (drop (length (name_text n))) g ∙ tail_reads n text in
+    record {
+      name_is = f;
+      value_is = subst (λ (u : List ℕ). IsValue n u s.value) t (subst (λ (m : Name). IsValue m r.text s.value) f r.value_is);
+    }
+
+pub setting_once : (w : List ℕ) (s t : Setting) → ReadsSetting w s → ReadsSetting w t → s ≡ t
+setting_once w s t r q =
+    let h = named t.name w q.text s q.word_is r in
+    let v = value_once t.name q.text s.value t.value h.value_is q.value_is in
+    λ i. record { name = h.name_is i; value = v i }
+
+pub settings_once : (ws : List (List ℕ)) (ss ts : List Setting) → AllZip ReadsSetting ws ss → AllZip ReadsSetting ws ts → ss ≡ ts
+settings_once [] [] [] r q = refl
+settings_once [] (s ∷ ss) ts r q = absurd r
+settings_once [] [] (t ∷ ts) r q = absurd q
+settings_once (w ∷ ws) [] ts r q = absurd r
+settings_once (w ∷ ws) (s ∷ ss) [] r q = absurd q
+settings_once (w ∷ ws) (s ∷ ss) (t ∷ ts) r q =
+    let e = setting_once w s t r.0 q.0 in
+    let f = settings_once ws ss ts r.1 q.1 in
+    λ i. e i ∷ f i
+
+-- a word that begins with none of the names up to a number
+abbrev pub IsUnnamed : List ℕ → ℕ → Type 0
+IsUnnamed word count = (n : Name) → name_number n < count → (text : List ℕ) → word ≡ name_text n ++ text → ⊥
+
+pub unnamed_more : (word : List ℕ) (i : ℕ) (other : Name) → IsUnnamed word i → ((text : List ℕ) → word ≡ name_text (slice_index_or all_names i other) ++ text → ⊥) → IsUnnamed word (i + 1)
+unnamed_more word i other before here n lt text e =
+    elim (cases_lt (name_number n) i) [
+      | inl less ↦ before n less text e
+      | inr le ↦
+          let same : name_number n ≡ i = omega arith in
+          let is : n ≡ slice_index_or all_names i other = sym (name_at n other) ∙ ap (λ (k : ℕ). slice_index_or all_names k other) same in
+          here text (e ∙ ap (λ (m : Name). name_text m ++ text) is)
+    ]
+
+-- a word for each name
+abbrev pub sample_text : Name → List ℕ
+sample_text Level = codes "0"
+sample_text Below = codes "yes"
+sample_text Step = codes "1"
+sample_text Long = codes "1"
+sample_text Short = codes "1"
+sample_text Workers = codes "1"
+sample_text Slab = codes "1"
+
+abbrev pub sample_value : Name → ℤ
+sample_value Level = pos 0
+sample_value Below = pos 1
+sample_value Step = pos 1
+sample_value Long = pos 1
+sample_value Short = pos 1
+sample_value Workers = pos 1
+sample_value Slab = pos 1
+
+sample_is : (n : Name) → IsValue n (sample_text n) (sample_value n)
+sample_is Level = (0, inl ((0, omega arith, inl (sym (decimal_digit 0 (omega arith)), refl)), refl))
+sample_is Below = (refl, refl)
+sample_is Step = (1, omega arith, omega arith, sym (decimal_digit 1 (omega arith)), refl)
+sample_is Long = (1, omega arith, omega arith, sym (decimal_digit 1 (omega arith)), refl)
+sample_is Short = (1, omega arith, omega arith, sym (decimal_digit 1 (omega arith)), refl)
+sample_is Workers = (1, omega arith, omega arith, sym (decimal_digit 1 (omega arith)), refl)
+sample_is Slab = (1, omega arith, omega arith, sym (decimal_digit 1 (omega arith)), refl)
+
+pub sample_reads : (n : Name) → ReadsSetting (name_text n ++ sample_text n) (record { name = n; value = sample_value n })
+sample_reads n = record { text = sample_text n; word_is = refl; value_is = sample_is n }

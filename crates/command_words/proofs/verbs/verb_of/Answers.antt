@@ -1,0 +1,9 @@
+use Rattle.std.proofs.Common.{sym, codes}
+use Rattle.command_words.proofs.Places.{first_is}
+use Rattle.command_words.proofs.verbs.verb_of.Goals as goal
+
+pub returns-then-is_word-clause-text : goal.returns-then-is_word-clause-text
+returns-then-is_word-clause-text c = first_is c.args.words.now (codes "count") (sym c.if-is_word.ensures)
+
+pub returns-then-is_word-2-clause-text : goal.returns-then-is_word-2-clause-text
+returns-then-is_word-2-clause-text c = first_is c.args.words.now (codes "mesh") (sym c.if-is_word-2.ensures)

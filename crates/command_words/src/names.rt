@@ -1,0 +1,30 @@
+ghost use Rattle.std.specs.Prelude.{◌≡◌};
+ghost use Rattle.command_line.specs.Grammar.{name_text as name_text_lem};
+
+use command_line::Name;
+
+/// All names of named words, in the order of their numbers.
+pub const NAMES: [Name; 7] = [
+    Name::Level,
+    Name::Below,
+    Name::Step,
+    Name::Long,
+    Name::Short,
+    Name::Workers,
+    Name::Slab,
+];
+
+/// The text with which a named word begins.
+pub fn name_text(name: Name) -> &'static [u8]
+    ensures { result.now ≡ name_text_lem name }
+{
+    match name {
+        Name::Level => b"level=",
+        Name::Below => b"below=",
+        Name::Step => b"step=",
+        Name::Long => b"long=",
+        Name::Short => b"short=",
+        Name::Workers => b"workers=",
+        Name::Slab => b"slab=",
+    }
+}

@@ -1,0 +1,90 @@
+ghost use Rattle.std.specs.Prelude.{◌≡◌, ◌<◌, ◌≤◌, List, ℕ, ℤ, length, IfOk, IfErr, IfSome, IfNone, unwrap_or};
+ghost use Rattle.command_line.specs.Grammar.{Reads, IsBadPlace, IsPlan, Command as Meaning};
+ghost use Rattle.command_words.specs.Commands.{is_name as is_name_lem, AreNames, IsBadName, command_seen, input_of, step_of, mesh_of, meaning_of};
+
+use crate::command::Command;
+use crate::settings::{Seen, read_settings};
+use crate::verbs::{file_count, verb_of};
+use command_line::Verb;
+use samples::Level;
+use st_base::Words;
+
+// Whether word `n` can be a file's name.
+fn is_name(words: &Words, n: usize) -> bool
+    ensures { result ≡ is_name_lem words.now n }
+{
+    n < words.len() && !words.word(n).is_empty()
+}
+
+// The first of so many words behind the first that cannot be a file's name.
+fn bad_name(words: &Words, count: usize) -> Option<usize>
+    ensures bad { IfSome result (λ place. IsBadName words.now count place) }
+    ensures none { IfNone result (AreNames words.now count) }
+{
+    for i in 0..count {
+        if !is_name(words, i + 1) {
+            return Some(i + 1);
+        }
+    }
+    None
+}
+
+// The command of a verb, by what its named words set.
+fn command_by(verb: Verb, level: Level, seen: &Seen) -> Command
+    requires long { unwrap_or seen.now.long 1023 ≤ 1023 }
+    requires short { unwrap_or seen.now.short 1687 ≤ 2047 }
+    ensures { result ≡ command_seen verb level seen.now }
+{
+    let below = seen.below;
+    let step = seen.step.unwrap_or(1);
+    match verb {
+        Verb::Count => Command::Count {
+            input: 1,
+            level,
+            below,
+            step,
+        },
+        Verb::Mesh => Command::Mesh {
+            input: 1,
+            output: 2,
+            level,
+            below,
+            step,
+            shares: seen.shares(),
+            plan: seen.plan(),
+        },
+    }
+}
+
+/// The command that the words are, or the place of bad words: the number of the first word with
+/// which no command goes on, or of words where all of them begin one.
+pub fn read_words(words: &Words) -> Result<Command, u64>
+    ensures command { IfOk result (λ c. Reads words.now (meaning_of c)) }
+    ensures input { IfOk result (λ c. input_of c < length words.now) }
+    ensures output { IfOk result (λ c. IfSome (mesh_of c) (λ m. m.output < length words.now)) }
+    ensures step { IfOk result (λ c. (1 ≤ step_of c) × (step_of c ≤ 64)) }
+    ensures plan { IfOk result (λ c. IfSome (mesh_of c) (λ m. IsPlan m.plan)) }
+    ensures place { IfErr result (λ place. IsBadPlace words.now place) }
+{
+    let Some(verb) = verb_of(words) else {
+        return Err(0);
+    };
+    let files = file_count(verb);
+    if let Some(place) = bad_name(words, files) {
+        return Err(place as u64);
+    }
+    let seen = match read_settings(verb, words, files + 1) {
+        Ok(seen) => seen,
+        Err(place) => return Err(place),
+    };
+    let Some(level) = seen.level else {
+        return Err(words.len() as u64);
+    };
+    Ok(command_by(verb, level, &seen))
+}
+
+/// A list of words reads as one command at most, and words are bad at one place at most.
+pub fn words_read_once()
+    ensures command { (words : List (List ℕ)) (c d : Meaning) → Reads words c → Reads words d → c ≡ d }
+    ensures place { (words : List (List ℕ)) (m n : ℕ) → IsBadPlace words m → IsBadPlace words n → m ≡ n }
+{}

@@ -1,0 +1,52 @@
+ghost use Rattle.std.specs.Prelude.{◌≡◌, IfSome, IfNone};
+ghost use Rattle.command_line.specs.declared.Verb.{Verb as VerbValue};
+ghost use Rattle.command_line.specs.Grammar.{file_count as file_count_lem};
+ghost use Rattle.command_words.specs.Commands.{is_word as is_word_lem, HasVerb};
+ghost use Rattle.command_words.specs.Settings.{is_known as is_known_lem};
+
+use command_line::{Name, Verb};
+use st_base::Words;
+
+// Whether word `n` is this text.
+fn is_word(words: &Words, n: usize, text: &[u8]) -> bool
+    ensures { result ≡ is_word_lem words.now n text.now }
+{
+    n < words.len() && words.word(n) == text
+}
+
+/// The command whose word is the first one.
+pub fn verb_of(words: &Words) -> Option<Verb>
+    ensures text { IfSome result (λ verb. HasVerb words.now verb) }
+    ensures none { IfNone result ((verb : VerbValue) → HasVerb words.now verb → ⊥) }
+{
+    if is_word(words, 0, b"count") {
+        return Some(Verb::Count);
+    }
+    if is_word(words, 0, b"mesh") {
+        return Some(Verb::Mesh);
+    }
+    None
+}
+
+/// How many file names follow a command's word.
+pub fn file_count(verb: Verb) -> usize
+    ensures { result ≡ file_count_lem verb }
+{
+    match verb {
+        Verb::Count => 1,
+        Verb::Mesh => 2,
+    }
+}
+
+/// Whether a command has the name.
+pub fn is_known(verb: Verb, name: Name) -> bool
+    ensures { result ≡ is_known_lem verb name }
+{
+    match verb {
+        Verb::Count => match name {
+            Name::Level | Name::Below | Name::Step => true,
+            Name::Long | Name::Short | Name::Workers | Name::Slab => false,
+        },
+        Verb::Mesh => true,
+    }
+}

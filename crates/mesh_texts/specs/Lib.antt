@@ -1,0 +1,3 @@
+pub mod Coordinates
+pub mod Lines
+pub mod Files

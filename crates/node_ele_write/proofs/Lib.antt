@@ -1,0 +1,5 @@
+pub mod Decimals
+pub mod Files
+pub mod Growing
+pub mod Lines
+pub mod Pieces

@@ -1,0 +1,17 @@
+use Rattle.std.proofs.Common.{rules, ◌∙◌}
+use Rattle.node_ele_write.proofs.Growing.{appends_trans, take_more}
+use Rattle.node_ele_write.proofs.put.put_all.Goals as goal
+
+pub loop-preserved : goal.loop-preserved
+loop-preserved g c = record {
+  turns = search rules;
+  within = search rules;
+  text = appends_trans _ _ _ _ _ _ c.loop.invariant.text c.in-Ok.ensures.text (take_more c.loop.from c.in-Ok.count c.args.bytes.now);
+  faults = search rules;
+  is_open = search rules;
+  name = search rules;
+  tried = search rules;
+  input = search rules;
+  others = λ p ne. c.in-Ok.ensures.others p ne ∙ c.loop.invariant.others p ne;
+  held = λ n. c.in-Ok.ensures.held n ∙ c.loop.invariant.held n;
+}

@@ -1,0 +1,14 @@
+pub mod Padding
+pub mod KeptNodes
+pub mod NodesOfATetrahedron
+pub mod FoundNodes
+pub mod NodesOfTheMesh
+pub mod UsedNodes
+pub mod PlusVertices
+pub mod Ranks
+pub mod NumbersLeadBack
+pub mod Layers
+pub mod Pieces
+pub mod Standing
+pub mod Reach
+pub mod WorkedValues

@@ -1,0 +1,5 @@
+use Rattle.node_laws.proofs.Pieces as law
+use Rattle.node_laws.proofs.piece_counts_by_signs.Goals as goal
+
+pub returns : goal.returns
+returns c = law.piece_counts_by_signs

@@ -1,0 +1,3 @@
+pub mod EachOnceLaws
+pub mod Totals
+pub mod Steps

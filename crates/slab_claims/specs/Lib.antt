@@ -1,0 +1,4 @@
+pub mod EachOnce
+pub mod Seats
+pub mod Answers
+pub mod Rule

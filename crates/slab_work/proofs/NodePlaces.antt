@@ -1,0 +1,61 @@
+-- Where the nodes of a vertex stand, and the list of nodes with one more.
+use Rattle.std.proofs.Common.{◌≡◌, ℕ, ◌+◌, ◌*◌, ◌/◌, ◌%◌, ◌<◌, ◌≤◌, ◌==◌, arith, refl, sym, ◌∙◌, ap, Bool, true, false, List, [], ◌∷◌, ◌++◌, map, append_assoc}
+use Rattle.std.specs.Prelude.{if◌then◌else◌, filter}
+use Rattle.std.specs.List.{range_with_len}
+use Rattle.std.proofs.lemmas.Bool.Decides.{nat_tests}
+use Rattle.std.proofs.lemmas.List.{map-append}
+use Rattle.definitions.specs.declared.Vertex.{Vertex}
+use Rattle.definitions.specs.declared.State.{State}
+use Rattle.definitions.specs.Lattice.{vertex_at}
+use Rattle.definitions.specs.Values.{Field}
+use Rattle.definitions.specs.Places.{cut_place, state_place}
+use Rattle.definitions.specs.Mesh.{edge_cut, node_place, state_at}
+use Rattle.node_laws.proofs.Ranks.{filter_split}
+
+key_vertex : (n dir : ℕ) → dir < 8 → (8 * n + dir) / 8 ≡ n
+key_vertex n dir lt = omega arith
+
+key_direction : (n dir : ℕ) → dir < 8 → (8 * n + dir) % 8 ≡ dir
+key_direction n dir lt = omega arith
+
+node_place_at : (f : Field) (ss : List State) (v : Vertex) (n dir : ℕ) → vertex_at f.dims n ≡ v → dir < 8 →
+    node_place f ss (8 * n + dir) ≡ (if dir == 0 then state_place v (state_at ss n) else cut_place v dir (edge_cut f v dir))
+unfolding node_place
+node_place_at f ss v n dir e lt =
+    (λ i. if key_direction n dir lt i == 0 then state_place (vertex_at f.dims (key_vertex n dir lt i)) (state_at ss (key_vertex n dir lt i)) else cut_place (vertex_at f.dims (key_vertex n dir lt i)) (key_direction n dir lt i) (edge_cut f (vertex_at f.dims (key_vertex n dir lt i)) (key_direction n dir lt i)))
+    ∙ (λ i. if dir == 0 then state_place (e i) (state_at ss n) else cut_place (e i) dir (edge_cut f (e i) dir))
+
+-- of an edge, and of the vertex itself
+pub edge_place : (f : Field) (ss : List State) (v : Vertex) (n dir : ℕ) → vertex_at f.dims n ≡ v → 1 ≤ dir → dir < 8 → node_place f ss (8 * n + dir) ≡ cut_place v dir (edge_cut f v dir)
+edge_place f ss v n dir e low lt =
+    node_place_at f ss v n dir e lt ∙ ap (λ b. if b then state_place v (state_at ss n) else cut_place v dir (edge_cut f v dir)) (other dir low)
+  where
+    other : (n : ℕ) → 1 ≤ n → (n == 0) ≡ false
+    other n h = grind (arith, nat_tests)
+
+pub vertex_place : (f : Field) (ss : List State) (v : Vertex) (n dir : ℕ) → vertex_at f.dims n ≡ v → dir ≡ 0 → node_place f ss (8 * n + dir) ≡ state_place v (state_at ss n)
+vertex_place f ss v n dir e z = ap (λ m. node_place f ss (8 * n + m)) z ∙ node_place_at f ss v n 0 e (omega arith)
+
+map_one : {X : Type 0} (f : ℕ → X) (b : Bool) (k : ℕ) → map f (filter (λ _. b) (k ∷ [])) ≡ (if b then f k ∷ [] else [])
+map_one f true k = refl
+map_one f false k = refl
+
+-- one more key
+pub keys_more : {X : Type 0} (f : ℕ → X) (p : ℕ → Bool) (a n : ℕ) (xs ys zs : List X) → ys ≡ xs ++ map f (filter p (range_with_len a n)) → zs ≡ ys ++ (if p (a + n) then f (a + n) ∷ [] else []) →
+    zs ≡ xs ++ map f (filter p (range_with_len a (n + 1)))
+keys_more f p a n xs ys zs e g =
+    g ∙ ap (λ l. l ++ (if p (a + n) then f (a + n) ∷ [] else [])) e ∙ append_assoc xs (map f (filter p (range_with_len a n))) (if p (a + n) then f (a + n) ∷ [] else [])
+    ∙ ap (λ l. xs ++ l) (ap (λ l. map f (filter p (range_with_len a n)) ++ l) (sym (map_one f (p (a + n)) (a + n))) ∙ sym (map-append f (filter p (range_with_len a n)) (filter p (range_with_len (a + n) 1))) ∙ ap (map f) (sym (filter_split p a n 1)))
+
+-- the keys of one more vertex
+pub vertices_more : {X : Type 0} (f : ℕ → X) (p : ℕ → Bool) (n : ℕ) (ys zs : List X) → ys ≡ map f (filter p (range_with_len 0 (8 * n))) → zs ≡ ys ++ map f (filter p (range_with_len (8 * n) 8)) →
+    zs ≡ map f (filter p (range_with_len 0 (8 * (n + 1))))
+vertices_more f p n ys zs e g =
+    g ∙ ap (λ l. l ++ map f (filter p (range_with_len (8 * n) 8))) e ∙ sym (map-append f (filter p (range_with_len 0 (8 * n))) (filter p (range_with_len (8 * n) 8)))
+    ∙ ap (map f) (ap (λ m. filter p (range_with_len 0 (8 * n)) ++ filter p (range_with_len m 8)) (from_zero (8 * n)) ∙ sym (filter_split p 0 (8 * n) 8) ∙ ap (λ m. filter p (range_with_len 0 m)) (next n))
+  where
+    from_zero : (m : ℕ) → m ≡ 0 + m
+    from_zero m = omega arith
+
+    next : (n : ℕ) → 8 * n + 8 ≡ 8 * (n + 1)
+    next n = omega arith

@@ -1,0 +1,42 @@
+-- The ids and the nodes below a layer.
+use Rattle.std.proofs.Common.{◌≡◌, ℕ, ◌+◌, ◌-◌, ◌<◌, ◌≤◌, List, length, take, arith, sym, ap, subst, ◌∙◌}
+use Rattle.std.specs.Prelude.{sum_by}
+use Rattle.std.specs.List.{range_with_len}
+use Rattle.std.proofs.lemmas.List.Sums.{sum-map}
+use Rattle.std.proofs.lemmas.List.FromFn.{length-map-range_with_len, take-map-range_with_len}
+use Rattle.definitions.specs.declared.Dims.{Dims}
+use Rattle.definitions.specs.declared.State.{State}
+use Rattle.definitions.specs.Lattice.{layers}
+use Rattle.definitions.specs.Layout.{layer_len, layer_start}
+use Rattle.definitions.specs.Mesh.{layer_node_keys}
+use Rattle.lattice_counts.specs.Counts.{below_layer}
+use Rattle.lattice_counts.proofs.Ranks.{below_rises, start}
+use Rattle.node_laws.proofs.Layers.{counts_below, next_start}
+use Rattle.vertex_numbers.specs.Counts.{count_of_layer, layer_counts}
+use Rattle.vertex_numbers.specs.Numbering.{nodes_before}
+use Rattle.vertex_numbers.proofs.Sums.{sum_by-map}
+
+pub starts_rise : (d : Dims) (g h : ℕ) → g ≤ h → h ≤ layers d → layer_start d g ≤ layer_start d h
+starts_rise d g h le within =
+    let r : below_layer d g ≤ below_layer d h = subst (λ n. below_layer d g ≤ below_layer d n) (let e : g + (h - g) ≡ h = omega arith in e) (below_rises d g (h - g)) in
+    subst (λ n. n ≤ layer_start d h) (sym (start d g (omega arith))) (subst (λ n. below_layer d g ≤ n) (sym (start d h within)) r)
+
+-- the layer below one ends where it begins, as numbers that are worked out of equal sizes
+pub ends_at : (d e : Dims) (h first len : ℕ) → e ≡ d → 0 < h → h ≤ layers d → first ≡ layer_start e (h - 1) → len ≡ layer_len e (h - 1) → first + len ≡ layer_start d h
+ends_at d e h first len same some within p q =
+    (λ i. p i + q i)
+    ∙ (λ i. layer_start (same i) (h - 1) + layer_len (same i) (h - 1))
+    ∙ sym (next_start d (h - 1) (omega arith)) ∙ ap (layer_start d) (let f : h - 1 + 1 ≡ h = omega arith in f)
+
+module _ (d : Dims) (ss : List State) where
+  pub counts_len : length (layer_counts d ss) ≡ layers d
+  counts_len = length-map-range_with_len (count_of_layer d ss) 0 (layers d)
+
+  -- the nodes of the layers below one
+  pub counts_to : (h : ℕ) → h ≤ layers d → sum_by (λ c. c.nodes) (take h (layer_counts d ss)) ≡ nodes_before d ss (layer_start d h)
+  unfolding nodes_before
+  counts_to h le =
+      ap (sum_by (λ c. c.nodes)) (take-map-range_with_len (count_of_layer d ss) 0 (layers d) h le)
+      ∙ sum_by-map (λ c. c.nodes) (count_of_layer d ss) (range_with_len 0 h)
+      ∙ sym (sum-map (λ g. length (layer_node_keys d ss g)) (range_with_len 0 h))
+      ∙ sym (counts_below d ss h le)

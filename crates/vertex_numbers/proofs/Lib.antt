@@ -1,0 +1,11 @@
+pub mod Neighbours
+pub mod Seven
+pub mod NodesTold
+pub mod PiecesTold
+pub mod EightBits
+pub mod Sums
+pub mod LayerIds
+pub mod LayersTold
+pub mod NumberedIds
+pub mod LayerStarts
+pub mod NoPlus

@@ -1,0 +1,15 @@
+use Rattle.std.proofs.Common.{◌≤◌, ◌+◌, ◌-◌, ◌%◌, ap, sym, subst, ◌∙◌}
+use Rattle.definitions.specs.declared.Dims.{Dims}
+use Rattle.definitions.specs.Layout.{layer_start}
+use Rattle.node_laws.proofs.Layers.{next_start}
+use Rattle.vertex_numbers.specs.Numbering.{IsDraft}
+use Rattle.vertex_numbers.proofs.LayerIds.{all_rows}
+use Rattle.vertex_numbers.proofs.starts.push_layer.Goals as goal
+
+pub returns-clause-draft : goal.returns-clause-draft
+returns-clause-draft c =
+    let s = c.args.states.now in
+    let h = c.args.h in
+    let same = c.dims-dims.ensures.dims in
+    let rows = all_rows s.dims h c.loop-j.j (subst (λ (e : Dims). e.ny + 2 - h % 2 ≤ c.loop-j.j) same c.loop-j-test.false) (subst (λ (e : Dims). c.loop-j.j ≤ e.ny + 2 - h % 2) same c.loop-j.auto.j-end) in
+    subst (λ n. IsDraft s.dims s.states n c.loop-j.draft) (ap (λ n. layer_start s.dims h + n) rows ∙ sym (next_start s.dims h c.requires.layer)) c.loop-j.invariant.draft

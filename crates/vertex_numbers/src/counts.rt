@@ -1,0 +1,104 @@
+ghost use Rattle.std.specs.Prelude.{◌≡◌, ◌≤◌, ◌<◌, ◌+◌, ◌*◌, ℕ, length, List, sum_by};
+ghost use Rattle.definitions.specs.declared.State.{State};
+ghost use Rattle.definitions.specs.Lattice.{InDomain, IsDims, layers};
+ghost use Rattle.definitions.specs.Mesh.{ArePadded, layer_node_keys, layer_pieces};
+ghost use Rattle.lattice_counts.specs.Counts.{row_len};
+ghost use Rattle.vertex_numbers.specs.Counts.{nodes_at_id, pieces_at_id, row_ids, vertex_nodes, vertex_pieces};
+ghost use Rattle.vertex_numbers.specs.Sources.{Agrees, KnowsAround};
+
+use crate::StateSource;
+use crate::around::signs_around;
+use crate::nodes::nodes_around;
+use crate::pieces::pieces_up;
+use st_base::{Dims, Vertex};
+
+/// The numbers of nodes and tetrahedra of the mesh that belong to a layer: the nodes at its vertices and
+/// on their edges upwards, and the pieces of the lattice tetrahedra whose lowest vertex is in it.
+#[derive(Clone, Copy, Debug, PartialEq, Eq)]
+pub struct LayerCount {
+    pub h: u32,
+    pub nodes: u32,
+    pub tets: u64,
+}
+
+/// What one vertex adds to the numbers of its layer.
+#[derive(Clone, Copy)]
+struct Share {
+    nodes: u32,
+    tets: u64,
+}
+
+/// What a vertex adds.
+#[inline(always)]
+#[tactic(auto, unfolding(crate::specs::Counts::vertex_nodes, crate::specs::Counts::vertex_pieces))]
+fn share_of<S: StateSource>(from: &mut S, dims: Dims, v: Vertex) -> Share
+    requires dims { IsDims dims }
+    requires sizes { S.sizes from.old ≡ dims }
+    requires domain { InDomain dims v }
+    requires known { KnowsAround dims (S.knows from.old) v.h }
+    ensures nodes { result.nodes ≡ vertex_nodes dims (S.told from.old) v }
+    ensures tets { result.tets ≡ vertex_pieces dims (S.told from.old) v }
+    ensures few_nodes { result.nodes ≤ 8 }
+    ensures few_tets { result.tets ≤ 18 }
+    ensures same { S.unchanged from.old from.new }
+{
+    let around = signs_around(from, dims, v);
+    let tets = pieces_up(&around) as u64;
+    let nodes = nodes_around(from, dims, v, &around).count_ones();
+    Share { nodes, tets }
+}
+
+/// What row `j` of layer `h` adds.
+#[tactic(auto, using(lattice_counts::proofs::Sizes::nx_small, lattice_counts::proofs::Sizes::ny_small))]
+fn share_of_row<S: StateSource>(from: &mut S, dims: Dims, h: u32, j: u32) -> Share
+    requires dims { IsDims dims }
+    requires sizes { S.sizes from.old ≡ dims }
+    requires layer { h < layers dims }
+    requires row { j < row_len dims.ny h }
+    requires known { KnowsAround dims (S.knows from.old) h }
+    ensures nodes { result.nodes ≡ sum_by (nodes_at_id dims (S.told from.old)) (row_ids dims h j) }
+    ensures tets { result.tets ≡ sum_by (pieces_at_id dims (S.told from.old)) (row_ids dims h j) }
+    ensures few_nodes { result.nodes ≤ 8 * row_len dims.nx h }
+    ensures few_tets { result.tets ≤ 18 * row_len dims.nx h }
+    ensures same { S.unchanged from.old from.new }
+{
+    let mut share = Share { nodes: 0, tets: 0 };
+    for i in 0..dims.nx + 2 - h % 2 {
+        let v = Vertex {
+            h,
+            y: j * 2 + h % 2,
+            x: i * 2 + h % 2,
+        };
+        let more = share_of(from, dims, v);
+        share.nodes += more.nodes;
+        share.tets += more.tets;
+    }
+    share
+}
+
+/// The numbers of nodes and tetrahedra of the mesh that belong to layer `h`.
+#[tactic(auto, using(lattice_counts::proofs::Sizes::nx_small, lattice_counts::proofs::Sizes::ny_small))]
+pub fn layer_count<S: StateSource>(from: &mut S, dims: Dims, h: u32) -> LayerCount
+    requires dims { IsDims dims }
+    requires sizes { S.sizes from.old ≡ dims }
+    requires layer { h < layers dims }
+    requires known { KnowsAround dims (S.knows from.old) h }
+    ensures h { result.h ≡ h }
+    ensures nodes { (ss : List State) → ArePadded dims ss → Agrees dims (S.knows from.old) (S.told from.old) ss
+        → result.nodes ≡ length (layer_node_keys dims ss h) }
+    ensures tets { (ss : List State) → ArePadded dims ss → Agrees dims (S.knows from.old) (S.told from.old) ss
+        → result.tets ≡ length (layer_pieces dims ss h) }
+    ensures same { S.unchanged from.old from.new }
+{
+    let mut count = LayerCount {
+        h,
+        nodes: 0,
+        tets: 0,
+    };
+    for j in 0..dims.ny + 2 - h % 2 {
+        let more = share_of_row(from, dims, h, j);
+        count.nodes += more.nodes;
+        count.tets += more.tets;
+    }
+    count
+}
