@@ -2,7 +2,7 @@
 use Rattle.std.proofs.Common.{◌≡◌, ℕ, suc, ◌<◌, ◌==◌, List, [], ◌∷◌, get_or, All, Contains, Bool, true, false, true≢false, if◌then◌else◌, refl, arith}
 use Rattle.std.proofs.lemmas.Bool.Decides.{nat_tests}
 use Rattle.std.proofs.lemmas.List.Sums.{sum_by-cons, get_or-le-sum_by}
-use Rattle.slab_claims.specs.EachOnce.{times, EachOnce}
+use Rattle.list_words.specs.Words.{times, EachOnce}
 
 when_false : (b : Bool) (m n : ℕ) → b ≡ false → (if b then m else n) ≡ n
 when_false true m n e = absurd (true≢false e)

@@ -8,7 +8,7 @@ use lib.ListN.{get_elem?}
 use Rattle.atomic_table.specs.Table.{Me, Step, keeps, Allows, Splits, Joins, Final, Seen}
 use Rattle.atomic_table.proofs.Lists.{set_else}
 use Rattle.slab_claims.specs.declared.rule.View.{View}
-use Rattle.slab_claims.specs.EachOnce.{times, EachOnce}
+use Rattle.list_words.specs.Words.{times, EachOnce}
 use Rattle.slab_claims.specs.Rule.{all_drawn, done_share, Fits, FitTogether, KeepsRule, after_draw, Draws, one_less, one_share, joint, spent}
 use Rattle.slab_claims.proofs.Totals.{All-at, sum_by-set_at, times-append, times-push, times-flat_map-set, times-flat_map_push, times-flat_map_none, times-le-flat_map}
 

@@ -1,4 +1,3 @@
-pub mod EachOnce
 pub mod Seats
 pub mod Answers
 pub mod Rule

@@ -2,7 +2,7 @@
 use Rattle.std.specs.Prelude.{◌≡◌, ℕ, ◌+◌, ◌-◌, ◌^◌, ◌<◌, ◌≤◌, nat_lt, min, List, [], ◌∷◌, ◌++◌, flat_map, sum_by, All, true, false, ◌||◌, if◌then◌else◌}
 use Rattle.atomic_table.specs.Table.{State, Step, Me}
 use Rattle.slab_claims.specs.declared.rule.View.{View}
-use Rattle.slab_claims.specs.EachOnce.{EachOnce}
+use Rattle.list_words.specs.Words.{EachOnce}
 
 -- the numbers that all seats drew
 abbrev pub all_drawn : List View → List ℕ

@@ -2,7 +2,7 @@ ghost use Rattle.std.specs.Prelude.{◌≡◌, ◌+◌, ◌-◌, ◌<◌, ◌≤
 ghost use mathlib.Core.Option.{none};
 ghost use Rattle.atomic_table.specs.Table.{step};
 ghost use Rattle.slab_claims.specs.Answers.{AnswersClaim};
-ghost use Rattle.slab_claims.specs.EachOnce.{EachOnce};
+ghost use Rattle.list_words.specs.Words.{EachOnce};
 ghost use Rattle.slab_claims.specs.Rule.{Draws};
 
 use crate::rule::{Draw, DrawsOnce, Sharing, View};
@@ -63,7 +63,7 @@ pub struct Drawn {
 }
 
 impl Model for Drawn {
-    ghost use Rattle.slab_claims.specs.EachOnce.{EachOnce};
+    ghost use Rattle.list_words.specs.Words.{EachOnce};
     ghost use Rattle.slab_claims.specs.Seats.{DrawnValue};
 
     ghost Value = { DrawnValue };

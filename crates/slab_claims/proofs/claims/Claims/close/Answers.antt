@@ -1,6 +1,6 @@
 use Rattle.std.proofs.Common.{sym, ap, ◌∙◌, subst}
 use Rattle.slab_claims.specs.declared.rule.View.{View}
-use Rattle.slab_claims.specs.EachOnce.{EachOnce}
+use Rattle.list_words.specs.Words.{EachOnce}
 use Rattle.slab_claims.specs.Seats.{ClaimsValue, SeatValue}
 use Rattle.slab_claims.proofs.Steps.{ends}
 use Rattle.slab_claims.proofs.claims.Claims.close.Goals as goal

@@ -1,0 +1,7 @@
+pub mod WorkedScripts
+pub mod Layers
+pub mod Workers
+pub mod Keeps
+pub mod Starts
+pub mod Needs
+pub mod Consequences
