@@ -1,0 +1,3 @@
+pub mod Noise
+pub mod Phantom
+pub mod Rows
