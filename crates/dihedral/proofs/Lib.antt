@@ -1,0 +1,14 @@
+pub mod SignedProducts
+pub mod Quotients
+pub mod LeadingBits
+pub mod SignedOrder
+pub mod Divisors
+pub mod Reductions
+pub mod WeakOrders
+pub mod FractionOrder
+pub mod ExtremesOfLists
+pub mod FaceNormals
+pub mod FaceSquares
+pub mod RunningExtremes
+pub mod SixAngles
+pub mod AnglesAreFractions

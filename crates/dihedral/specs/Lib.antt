@@ -1,0 +1,4 @@
+pub mod Bounds
+pub mod Fractions
+pub mod TetAngles
+pub mod TetFaces
