@@ -1,11 +1,11 @@
 -- The words of the command line, as a grammar of whole lists.
-use Rattle.std.specs.Prelude.{◌≡◌, ℕ, ◌+◌, ◌*◌, ◌^◌, ◌<◌, ◌≤◌, Bool, ◌||◌, ◌==◌, IsTrue, List, [], ◌∷◌, ◌++◌, length, take, count_by, codes, decimal, ◌⊎◌, option_map, find, unwrap_or, nat_lt, ℤ, pos, neg_ℤ, unsigned_abs}
+use Rattle.std.specs.Prelude.{◌≡◌, ℕ, ◌+◌, ◌-◌, ◌*◌, ◌^◌, ◌<◌, ◌≤◌, Bool, ◌||◌, ◌==◌, IsTrue, List, [], ◌∷◌, ◌++◌, length, take, count_by, codes, decimal, ◌⊎◌, option_map, find, unwrap_or, nat_lt, ℤ, pos, neg_ℤ, unsigned_abs}
 use Rattle.std.specs.List.{AllZip, list_any, list_all}
 use Rattle.definitions.specs.States.{Shares}
 use Rattle.command_line.specs.declared.Name.{Name}
-use Rattle.command_line.specs.declared.Name.TheVariants.{Level, Below, Step, Long, Short, Workers, Slab}
+use Rattle.command_line.specs.declared.Name.TheVariants.{Level, Below, Step, Long, Short, Workers, Slab, Size, Seed}
 use Rattle.command_line.specs.declared.Verb.{Verb}
-use Rattle.command_line.specs.declared.Verb.TheVariants.{Count, Mesh}
+use Rattle.command_line.specs.declared.Verb.TheVariants.{Count, Mesh, Demo}
 use Rattle.command_line.specs.declared.Plan.{Plan}
 
 -- Names of named words are told apart by their numbers.
@@ -17,6 +17,8 @@ name_number Long = 3
 name_number Short = 4
 name_number Workers = 5
 name_number Slab = 6
+name_number Size = 7
+name_number Seed = 8
 
 abbrev pub same_name : Name → Name → Bool
 same_name a b = name_number a == name_number b
@@ -29,6 +31,8 @@ name_text Long = codes "long="
 name_text Short = codes "short="
 name_text Workers = codes "workers="
 name_text Slab = codes "slab="
+name_text Size = codes "size="
+name_text Seed = codes "seed="
 
 -- The text is a whole number from `low` to `high`, without a sign or a leading zero, and `value` is that number.
 abbrev pub IsNumber : ℕ → ℕ → List ℕ → ℤ → Type 0
@@ -53,6 +57,8 @@ IsValue Long text value = IsNumber 0 1023 text value
 IsValue Short text value = IsNumber 0 2047 text value
 IsValue Workers text value = IsNumber 1 64 text value
 IsValue Slab text value = IsNumber 1 64 text value
+IsValue Size text value = IsNumber 1 128 text value
+IsValue Seed text value = IsNumber 0 (2 ^ 64 - 1) text value
 
 -- a named word, read
 pub record Setting : Type 0 where
@@ -67,20 +73,24 @@ pub record ReadsSetting (word : List ℕ) (s : Setting) : Type 0 where
 abbrev pub verb_text : Verb → List ℕ
 verb_text Count = codes "count"
 verb_text Mesh = codes "mesh"
+verb_text Demo = codes "demo"
 
 -- how many file names follow
 abbrev pub file_count : Verb → ℕ
 file_count Count = 1
 file_count Mesh = 2
+file_count Demo = 0
 
 -- the names that must be there, and those that may
 abbrev pub required : Verb → List Name
 required Count = Level ∷ []
 required Mesh = Level ∷ []
+required Demo = Size ∷ Seed ∷ []
 
 abbrev pub optional : Verb → List Name
 optional Count = Below ∷ Step ∷ []
 optional Mesh = Below ∷ Step ∷ Long ∷ Short ∷ Workers ∷ Slab ∷ []
+optional Demo = Workers ∷ Slab ∷ []
 
 abbrev pub is_among : List Name → Name → Bool
 is_among names n = list_any (same_name n) names
@@ -117,14 +127,16 @@ pub record IsPlan (plan : Plan) : Type 0 where
   pub some_slab : 1 ≤ plan.slab
   pub most_slab : plan.slab ≤ 64
 
--- A command. File names are the numbers of their words, and a level is given as twice the level.
+-- A command. File names are the numbers of their words, and a level is given as twice the level. A demo is of a volume that is made from a size and a seed.
 pub data Command : Type 0 where
   CountSigns : (input : ℕ) (level : ℤ) (below : Bool) (step : ℕ) → Command
   MakeMesh : (input output : ℕ) (level : ℤ) (below : Bool) (step : ℕ) (shares : Shares) (plan : Plan) → Command
+  MakeDemo : (size seed : ℕ) (plan : Plan) → Command
 
 abbrev pub command_of : Verb → List Setting → Command
 command_of Count s = CountSigns 1 (value_or s Level (pos 0)) (is_set s Below) (number_or s Step 1)
 command_of Mesh s = MakeMesh 1 2 (value_or s Level (pos 0)) (is_set s Below) (number_or s Step 1) (shares_of s) (plan_of s)
+command_of Demo s = MakeDemo (number_or s Size 1) (number_or s Seed 0) (plan_of s)
 
 -- A list of words reads as a command: the verb, the file names, and named words in any order.
 pub record Reads (words : List (List ℕ)) (c : Command) : Type 0 where

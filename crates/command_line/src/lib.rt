@@ -7,6 +7,7 @@
 pub enum Verb {
     Count,
     Mesh,
+    Demo,
 }
 
 /// The name of a named word.
@@ -19,6 +20,8 @@ pub enum Name {
     Short,
     Workers,
     Slab,
+    Size,
+    Seed,
 }
 
 /// How the work is shared out: how many workers there are, and how many pairs of layers a slab has;

@@ -1,16 +1,16 @@
 -- Names of named words, and the one setting that a word reads as.
-use Rattle.std.proofs.Common.{◌≡◌, inl, inr, ℕ, ℤ, pos, ◌<◌, ◌^◌, List, [], ◌∷◌, ◌++◌, length, drop, codes, ◌+◌, slice_index_or, true, Option, Some, refl, ap, sym, ◌∙◌, subst, arith}
+use Rattle.std.proofs.Common.{◌≡◌, inl, inr, ℕ, ℤ, pos, ◌<◌, ◌-◌, ◌^◌, List, [], ◌∷◌, ◌++◌, length, drop, codes, ◌+◌, slice_index_or, true, Option, Some, refl, ap, sym, ◌∙◌, subst, arith}
 use Rattle.std.specs.Prelude.{nat_eq, find}
 use Rattle.std.specs.List.{AllZip, starts_with}
 use Rattle.std.proofs.lemmas.Bool.{eq-eqb, eqb-true, cases_lt}
 use Rattle.std.proofs.lemmas.Fmt.{decimal_injective, decimal_digit}
 use Rattle.command_line.specs.declared.Name.{Name}
-use Rattle.command_line.specs.declared.Name.TheVariants.{Level, Below, Step, Long, Short, Workers, Slab}
+use Rattle.command_line.specs.declared.Name.TheVariants.{Level, Below, Step, Long, Short, Workers, Slab, Size, Seed}
 use Rattle.command_line.specs.Grammar.{Setting, ReadsSetting, IsNumber, IsValue, name_number, same_name, name_text}
 use Rattle.command_words.proofs.Decimals.{level_once}
 
 abbrev pub all_names : List Name
-all_names = Level ∷ Below ∷ Step ∷ Long ∷ Short ∷ Workers ∷ Slab ∷ []
+all_names = Level ∷ Below ∷ Step ∷ Long ∷ Short ∷ Workers ∷ Slab ∷ Size ∷ Seed ∷ []
 
 -- a name by its number
 pub name_at : (n other : Name) → slice_index_or all_names (name_number n) other ≡ n
@@ -21,8 +21,10 @@ name_at Long other = refl
 name_at Short other = refl
 name_at Workers other = refl
 name_at Slab other = refl
+name_at Size other = refl
+name_at Seed other = refl
 
-pub name_below : (n : Name) → name_number n < 7
+pub name_below : (n : Name) → name_number n < 9
 name_below Level = omega arith
 name_below Below = omega arith
 name_below Step = omega arith
@@ -30,6 +32,8 @@ name_below Long = omega arith
 name_below Short = omega arith
 name_below Workers = omega arith
 name_below Slab = omega arith
+name_below Size = omega arith
+name_below Seed = omega arith
 
 same_some : {A : Type 0} (m n : A) → Some m ≡ Some n → m ≡ n
 same_some m n e = cc
@@ -52,6 +56,8 @@ name_reads Long text = refl
 name_reads Short text = refl
 name_reads Workers text = refl
 name_reads Slab text = refl
+name_reads Size text = refl
+name_reads Seed text = refl
 
 tail_reads : (n : Name) (text : List ℕ) → drop (length (name_text n)) (name_text n ++ text) ≡ text
 tail_reads Level text = refl
@@ -61,6 +67,8 @@ tail_reads Long text = refl
 tail_reads Short text = refl
 tail_reads Workers text = refl
 tail_reads Slab text = refl
+tail_reads Size text = refl
+tail_reads Seed text = refl
 
 -- a text is one value at most
 number_once : (low high : ℕ) (text : List ℕ) (a b : ℤ) → high < 2 ^ 64 → IsNumber low high text a → IsNumber low high text b → a ≡ b
@@ -74,6 +82,8 @@ value_once Long text a b p q = number_once 0 1023 text a b (omega arith) p q
 value_once Short text a b p q = number_once 0 2047 text a b (omega arith) p q
 value_once Workers text a b p q = number_once 1 64 text a b (omega arith) p q
 value_once Slab text a b p q = number_once 1 64 text a b (omega arith) p q
+value_once Size text a b p q = number_once 1 128 text a b (omega arith) p q
+value_once Seed text a b p q = number_once 0 (2 ^ 64 - 1) text a b (omega arith) p q
 
 -- what a word that begins with a name reads as
 pub record IsNamed (n : Name) (text : List ℕ) (s : Setting) : Type 0 where
@@ -130,6 +140,8 @@ sample_text Long = codes "1"
 sample_text Short = codes "1"
 sample_text Workers = codes "1"
 sample_text Slab = codes "1"
+sample_text Size = codes "1"
+sample_text Seed = codes "1"
 
 abbrev pub sample_value : Name → ℤ
 sample_value Level = pos 0
@@ -139,6 +151,8 @@ sample_value Long = pos 1
 sample_value Short = pos 1
 sample_value Workers = pos 1
 sample_value Slab = pos 1
+sample_value Size = pos 1
+sample_value Seed = pos 1
 
 sample_is : (n : Name) → IsValue n (sample_text n) (sample_value n)
 sample_is Level = (0, inl ((0, omega arith, inl (sym (decimal_digit 0 (omega arith)), refl)), refl))
@@ -148,6 +162,8 @@ sample_is Long = (1, omega arith, omega arith, sym (decimal_digit 1 (omega arith
 sample_is Short = (1, omega arith, omega arith, sym (decimal_digit 1 (omega arith)), refl)
 sample_is Workers = (1, omega arith, omega arith, sym (decimal_digit 1 (omega arith)), refl)
 sample_is Slab = (1, omega arith, omega arith, sym (decimal_digit 1 (omega arith)), refl)
+sample_is Size = (1, omega arith, omega arith, sym (decimal_digit 1 (omega arith)), refl)
+sample_is Seed = (1, omega arith, omega arith, sym (decimal_digit 1 (omega arith)), refl)
 
 pub sample_reads : (n : Name) → ReadsSetting (name_text n ++ sample_text n) (record { name = n; value = sample_value n })
 sample_reads n = record { text = sample_text n; word_is = refl; value_is = sample_is n }

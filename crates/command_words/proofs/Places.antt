@@ -1,6 +1,6 @@
 -- The commands of the grammar, and the places at which words are bad.
 use Rattle.std.proofs.Common.{◌≡◌, inl, inr, ℕ, ℤ, pos, ◌+◌, ◌-◌, ◌<◌, ◌≤◌, zero, suc, List, [], ◌∷◌, ◌++◌, length, take, drop, append_assoc, length-append, Bool, true, false, Option, Some, None, refl, ap, sym, ◌∙◌, subst, arith, slice_index_or, add-one}
-use Rattle.std.specs.Prelude.{IsTrue, nat_lt, option_map, unwrap_or, unsigned_abs, is_some, if◌then◌else◌, IfSome}
+use Rattle.std.specs.Prelude.{IsTrue, ◌&&◌, nat_lt, option_map, option_and_then, unwrap_or, unsigned_abs, is_some, if◌then◌else◌, IfSome}
 use Rattle.std.specs.Str.{bytes_eq}
 use Rattle.std.proofs.Math.Seq.{take-suc, take-length, take-append-add}
 use Rattle.std.proofs.lemmas.Bool.{cases_lt}
@@ -9,13 +9,16 @@ use Rattle.std.proofs.lemmas.List.{take-take, take-append-drop, drop_at, length-
 use Rattle.std.proofs.lemmas.List.Folds.{list_all-append}
 use Rattle.std.proofs.lemmas.Slice.Eq.{bytes_eq-Decides}
 use Rattle.std.specs.List.{AllZip, list_all}
-use Rattle.command_line.specs.declared.Name.TheVariants.{Level, Below, Step, Long, Short, Workers, Slab}
+use Rattle.command_line.specs.declared.Name.{Name}
+use Rattle.command_line.specs.declared.Name.TheVariants.{Level, Below, Step, Long, Short, Workers, Slab, Size, Seed}
 use Rattle.command_line.specs.declared.Verb.{Verb}
-use Rattle.command_line.specs.declared.Verb.TheVariants.{Count, Mesh}
-use Rattle.command_line.specs.Grammar.{Setting, ReadsSetting, IsComplete, Reads, Command, Begins, IsBadPlace, IsPlan, command_of, is_set, number_or, value_or, verb_text, file_count, required}
+use Rattle.command_line.specs.declared.Verb.TheVariants.{Count, Mesh, Demo}
+use Rattle.command_line.specs.Grammar.{Setting, ReadsSetting, IsComplete, Reads, Command, Begins, IsBadPlace, IsPlan, CountSigns, MakeMesh, MakeDemo, command_of, is_set, number_or, shares_of, plan_of as plan_of_settings, value_or, verb_text, file_count, required}
 use Rattle.command_words.specs.declared.settings.Seen.{Seen}
-use Rattle.command_words.specs.Commands.{is_word, is_name, HasVerb, AreNames, IsBadName, command_seen, meaning_of, step_of, mesh_of}
-use Rattle.command_words.specs.Settings.{value_of, IsSettled, IsTaken, IsStuck, IsStop}
+use Rattle.command_words.specs.declared.command.Command.{Command as Found}
+use Rattle.command_words.specs.declared.command.Command.TheVariants as found
+use Rattle.command_words.specs.Commands.{is_word, is_name, HasVerb, AreNames, IsBadName, IsSourceWithin, command_seen, meaning_of, source_of, step_of, mesh_of, plan_of, plan_seen, shares_seen}
+use Rattle.command_words.specs.Settings.{held, value_of, IsSettled, IsTaken, IsStuck, IsStop}
 use Rattle.command_words.proofs.NamedWords.{settings_once}
 use Rattle.command_words.proofs.Settled.{set_is, settled_none, filled, stuck_none, number_between, left_of, right_of, both}
 
@@ -30,11 +33,22 @@ first_is (w ∷ ws) text h =
     (ws, ap (λ (u : List ℕ). u ∷ ws) (other_text w text t))
 
 -- commands are told apart by their words
+abbrev first_byte : List ℕ → ℕ
+first_byte text = slice_index_or text 0 0
+
+not_first_byte : (a b : List ℕ) (m n : ℕ) → first_byte a ≡ m → first_byte b ≡ n → m < n → a ≡ b → ⊥
+not_first_byte a b m n p q lt e = let f : first_byte a ≡ first_byte b = ap first_byte e in omega arith
+
 same_verb : (u v : Verb) → verb_text u ≡ verb_text v → u ≡ v
 same_verb Count Count e = refl
 same_verb Count Mesh e = cc
+same_verb Count Demo e = cc
 same_verb Mesh Count e = cc
 same_verb Mesh Mesh e = refl
+same_verb Mesh Demo e = absurd (not_first_byte (verb_text Demo) (verb_text Mesh) 100 109 refl refl (omega arith) (sym e))
+same_verb Demo Count e = cc
+same_verb Demo Mesh e = absurd (not_first_byte (verb_text Demo) (verb_text Mesh) 100 109 refl refl (omega arith) e)
+same_verb Demo Demo e = refl
 
 head_is : (v w : List ℕ) (xs ys : List (List ℕ)) → v ∷ xs ≡ w ∷ ys → v ≡ w
 head_is v w xs ys e = cc
@@ -267,21 +281,39 @@ stop_place ws v place o stop =
     (subst (λ (u : List (List ℕ)). IsTaken v (take stop.taken u) stop.seen) from stop.before)
     (subst (λ (u : List (List ℕ)). IsStuck v stop.seen (slice_index_or u stop.taken [])) from stop.stuck)))
 
--- words that are all taken
-level_required : (v : Verb) (ss : List Setting) → list_all (is_set ss) (required v) ≡ true → is_set ss Level ≡ true
-level_required Count ss h = left_of (is_set ss Level) true h
-level_required Mesh ss h = left_of (is_set ss Level) true h
+-- a name that must be set, and was not
+record IsMissing (v : Verb) (seen : Seen) : Type 0 where
+  name : Name
+  needed : (ss : List Setting) → list_all (is_set ss) (required v) ≡ true → is_set ss name ≡ true
+  unset : held seen name ≡ None
 
-level_missing : (v : Verb) (named : List (List ℕ)) (seen : Seen) (ss : List Setting) → IsTaken v named seen → seen.level ≡ None → IsSettled v named ss → is_set ss Level ≡ true → ⊥
-level_missing v named seen ss t none settled there =
+from_none_map : {A B : Type 0} (f : A → B) (o : Option A) → option_map f o ≡ None → o ≡ None
+from_none_map f None e = refl
+from_none_map f (Some x) e = cc
+
+missing : (v : Verb) (seen : Seen) → command_seen v seen ≡ None → IsMissing v seen
+missing Count seen e = record { name = Level; needed = λ ss h. left_of (is_set ss Level) true h; unset = from_none_map _ seen.level e }
+missing Mesh seen e = record { name = Level; needed = λ ss h. left_of (is_set ss Level) true h; unset = from_none_map _ seen.level e }
+missing Demo seen e = go seen.size refl e
+  where
+    go : (size : Option ℕ) → seen.size ≡ size → option_and_then (λ size. option_map (λ seed. found.Demo size seed (plan_seen seen)) seen.seed) size ≡ None → IsMissing Demo seen
+    go None is e = record { name = Size; needed = λ ss h. left_of (is_set ss Size) (is_set ss Seed && true) h; unset = ap (option_map pos) is }
+    go (Some n) is e = record {
+      name = Seed;
+      needed = λ ss h. left_of (is_set ss Seed) true (right_of (is_set ss Size) (is_set ss Seed && true) h);
+      unset = ap (option_map pos) (from_none_map (λ seed. found.Demo n seed (plan_seen seen)) seen.seed e);
+    }
+
+not_unset : (v : Verb) (named : List (List ℕ)) (seen : Seen) (ss : List Setting) (n : Name) → IsTaken v named seen → held seen n ≡ None → IsSettled v named ss → is_set ss n ≡ true → ⊥
+not_unset v named seen ss n t none settled there =
     let e : t.settings ≡ ss = settings_once named t.settings ss t.settled.named_are settled.named_are in
-    let w : value_of ss Level ≡ None = ap (λ (u : List Setting). value_of u Level) (sym e) ∙ sym (t.held_are Level) ∙ none in
-    let f : is_set ss Level ≡ false = set_is Level ss ∙ ap is_some w in
+    let w : value_of ss n ≡ None = ap (λ (u : List Setting). value_of u n) (sym e) ∙ sym (t.held_are n) ∙ none in
+    let f : is_set ss n ≡ false = set_is n ss ∙ ap is_some w in
     cc
 
-unlevelled : (v : Verb) (files named : List (List ℕ)) (seen : Seen) → length files ≡ file_count v → are_files files → IsTaken v named seen → seen.level ≡ None → IsBadPlace (verb_text v ∷ (files ++ named)) (length (verb_text v ∷ (files ++ named)))
-unlevelled v files named seen len some t none = record {
-  unread = λ c r. (let s = reads_as v files named c len r in level_missing v named seen s.settings t none s.settled (level_required v s.settings s.there));
+incomplete : (v : Verb) (files named : List (List ℕ)) (seen : Seen) → length files ≡ file_count v → are_files files → IsTaken v named seen → IsMissing v seen → IsBadPlace (verb_text v ∷ (files ++ named)) (length (verb_text v ∷ (files ++ named)))
+incomplete v files named seen len some t m = record {
+  unread = λ c r. (let s = reads_as v files named c len r in not_unset v named seen s.settings m.name t m.unset s.settled (m.needed s.settings s.there));
   within = omega arith;
   begins = subst (λ (u : List (List ℕ)). Begins u) (sym (take-length (verb_text v ∷ (files ++ named)))) (begins_named v files named t.settings len some t.settled);
   ends = λ lt on. absurd (omega (arith, lt));
@@ -290,9 +322,9 @@ unlevelled v files named seen len some t none = record {
 taken_behind : (ws : List (List ℕ)) (v : Verb) (seen : Seen) (o : IsOpened v ws) → IsTaken v (drop (file_count v + 1) ws) seen → IsTaken v o.named seen
 taken_behind ws v seen o t = subst (λ (u : List (List ℕ)). IsTaken v u seen) (named_from v ws o) t
 
-pub no_level : (ws : List (List ℕ)) (v : Verb) (seen : Seen) → IsOpened v ws → IsTaken v (drop (file_count v + 1) ws) seen → seen.level ≡ None → IsBadPlace ws (length ws)
-no_level ws v seen o t none =
-    subst (λ (u : List (List ℕ)). IsBadPlace u (length u)) (sym o.words_are) (unlevelled v o.files o.named seen o.files_len o.files_named (taken_behind ws v seen o t) none)
+pub no_command : (ws : List (List ℕ)) (v : Verb) (seen : Seen) → IsOpened v ws → IsTaken v (drop (file_count v + 1) ws) seen → command_seen v seen ≡ None → IsBadPlace ws (length ws)
+no_command ws v seen o t none =
+    subst (λ (u : List (List ℕ)). IsBadPlace u (length u)) (sym o.words_are) (incomplete v o.files o.named seen o.files_len o.files_named (taken_behind ws v seen o t) (missing v seen none))
 
 -- what the command is
 below_is : (b : Bool) (o : Option ℤ) → (if b then Some (pos 1) else None) ≡ o → b ≡ is_some o
@@ -303,37 +335,73 @@ number_is : (default : ℕ) (o : Option ℕ) (p : Option ℤ) → option_map pos
 number_is default None p e = ap (λ (q : Option ℤ). unsigned_abs (unwrap_or q (pos default))) e
 number_is default (Some n) p e = ap (λ (q : Option ℤ). unsigned_abs (unwrap_or q (pos default))) e
 
-command_is : (v : Verb) (named : List (List ℕ)) (seen : Seen) (level : ℤ) (t : IsTaken v named seen) → seen.level ≡ Some level → meaning_of (command_seen v level seen) ≡ command_of v t.settings
-command_is Count named seen level t e =
-    let l : level ≡ value_or t.settings Level (pos 0) = ap (λ (o : Option ℤ). unwrap_or o (pos 0)) (sym e ∙ t.held_are Level) in
-    let b : seen.below ≡ is_set t.settings Below = below_is seen.below (value_of t.settings Below) (t.held_are Below) ∙ sym (set_is Below t.settings) in
-    let s : unwrap_or seen.step 1 ≡ number_or t.settings Step 1 = number_is 1 seen.step (value_of t.settings Step) (t.held_are Step) in
-    cc
-command_is Mesh named seen level t e =
-    let l : level ≡ value_or t.settings Level (pos 0) = ap (λ (o : Option ℤ). unwrap_or o (pos 0)) (sym e ∙ t.held_are Level) in
-    let b : seen.below ≡ is_set t.settings Below = below_is seen.below (value_of t.settings Below) (t.held_are Below) ∙ sym (set_is Below t.settings) in
-    let s : unwrap_or seen.step 1 ≡ number_or t.settings Step 1 = number_is 1 seen.step (value_of t.settings Step) (t.held_are Step) in
-    let long : unwrap_or seen.long 1023 ≡ number_or t.settings Long 1023 = number_is 1023 seen.long (value_of t.settings Long) (t.held_are Long) in
-    let short : unwrap_or seen.short 1687 ≡ number_or t.settings Short 1687 = number_is 1687 seen.short (value_of t.settings Short) (t.held_are Short) in
-    let workers : unwrap_or seen.workers 4 ≡ number_or t.settings Workers 4 = number_is 4 seen.workers (value_of t.settings Workers) (t.held_are Workers) in
-    let slab : unwrap_or seen.slab 4 ≡ number_or t.settings Slab 4 = number_is 4 seen.slab (value_of t.settings Slab) (t.held_are Slab) in
-    cc
+-- the command that was seen is that of the settings, and all are there that must be
+record IsSeen (v : Verb) (ss : List Setting) (c : Found) : Type 0 where
+  means : meaning_of c ≡ command_of v ss
+  there : list_all (is_set ss) (required v) ≡ true
 
-required_there : (v : Verb) (ss : List Setting) → is_set ss Level ≡ true → list_all (is_set ss) (required v) ≡ true
-required_there Count ss h = both (is_set ss Level) true h refl
-required_there Mesh ss h = both (is_set ss Level) true h refl
+from_some_map : {A B : Type 0} (f : A → B) (o : Option A) (y : B) → option_map f o ≡ Some y → (x : A) × (o ≡ Some x) × (f x ≡ y)
+from_some_map f None y e = cc
+from_some_map f (Some x) y e = (x, refl, cc)
 
-all_there : (v : Verb) (named : List (List ℕ)) (seen : Seen) (level : ℤ) (t : IsTaken v named seen) → seen.level ≡ Some level → list_all (is_set t.settings) (required v) ≡ true
-all_there v named seen level t e =
-    let w : value_of t.settings Level ≡ Some level = sym (t.held_are Level) ∙ e in
-    required_there v t.settings (set_is Level t.settings ∙ ap is_some w)
+from_some_then : {A B : Type 0} (f : A → Option B) (o : Option A) (y : B) → option_and_then f o ≡ Some y → (x : A) × (o ≡ Some x) × (f x ≡ Some y)
+from_some_then f None y e = cc
+from_some_then f (Some x) y e = (x, refl, e)
 
-pub reads_all : (ws : List (List ℕ)) (v : Verb) (seen : Seen) (level : ℤ) → IsOpened v ws → IsTaken v (drop (file_count v + 1) ws) seen → seen.level ≡ Some level → Reads ws (meaning_of (command_seen v level seen))
-reads_all ws v seen level o taken e =
+module _ (v : Verb) (named : List (List ℕ)) (seen : Seen) (t : IsTaken v named seen) where
+  set_by : (n : Name) (value : ℤ) → held seen n ≡ Some value → is_set t.settings n ≡ true
+  set_by n value e = set_is n t.settings ∙ ap is_some (sym (t.held_are n) ∙ e)
+
+  level_is : (level : ℤ) → seen.level ≡ Some level → level ≡ value_or t.settings Level (pos 0)
+  level_is level e = ap (λ (o : Option ℤ). unwrap_or o (pos 0)) (sym e ∙ t.held_are Level)
+
+  below_seen : seen.below ≡ is_set t.settings Below
+  below_seen = below_is seen.below (value_of t.settings Below) (t.held_are Below) ∙ sym (set_is Below t.settings)
+
+  step_is : unwrap_or seen.step 1 ≡ number_or t.settings Step 1
+  step_is = number_is 1 seen.step (value_of t.settings Step) (t.held_are Step)
+
+  shares_are : shares_seen seen ≡ shares_of t.settings
+  shares_are = λ i. record { long = number_is 1023 seen.long (value_of t.settings Long) (t.held_are Long) i; short = number_is 1687 seen.short (value_of t.settings Short) (t.held_are Short) i }
+
+  plan_is : plan_seen seen ≡ plan_of_settings t.settings
+  plan_is = λ i. record { workers = number_is 4 seen.workers (value_of t.settings Workers) (t.held_are Workers) i; slab = number_is 4 seen.slab (value_of t.settings Slab) (t.held_are Slab) i }
+
+  size_is : (size : ℕ) → seen.size ≡ Some size → size ≡ number_or t.settings Size 1
+  size_is size e = ap (λ (o : Option ℕ). unwrap_or o 1) (sym e) ∙ number_is 1 seen.size (value_of t.settings Size) (t.held_are Size)
+
+  seed_is : (seed : ℕ) → seen.seed ≡ Some seed → seed ≡ number_or t.settings Seed 0
+  seed_is seed e = ap (λ (o : Option ℕ). unwrap_or o 0) (sym e) ∙ number_is 0 seen.seed (value_of t.settings Seed) (t.held_are Seed)
+
+seen_is : (v : Verb) (named : List (List ℕ)) (seen : Seen) (c : Found) (t : IsTaken v named seen) → command_seen v seen ≡ Some c → IsSeen v t.settings c
+seen_is Count named seen c t e =
+    let r = from_some_map _ seen.level c e in
+    record {
+      means = ap meaning_of (sym r.2) ∙ (λ i. CountSigns 1 (level_is Count named seen t r.0 r.1 i) (below_seen Count named seen t i) (step_is Count named seen t i));
+      there = both (is_set t.settings Level) true (set_by Count named seen t Level r.0 r.1) refl;
+    }
+seen_is Mesh named seen c t e =
+    let r = from_some_map _ seen.level c e in
+    record {
+      means = ap meaning_of (sym r.2) ∙ (λ i. MakeMesh 1 2 (level_is Mesh named seen t r.0 r.1 i) (below_seen Mesh named seen t i) (step_is Mesh named seen t i) (shares_are Mesh named seen t i) (plan_is Mesh named seen t i));
+      there = both (is_set t.settings Level) true (set_by Mesh named seen t Level r.0 r.1) refl;
+    }
+seen_is Demo named seen c t e =
+    let q = from_some_then (λ size. option_map (λ seed. found.Demo size seed (plan_seen seen)) seen.seed) seen.size c e in
+    let r = from_some_map (λ seed. found.Demo q.0 seed (plan_seen seen)) seen.seed c q.2 in
+    record {
+      means = ap meaning_of (sym r.2) ∙ (λ i. MakeDemo (size_is Demo named seen t q.0 q.1 i) (seed_is Demo named seen t r.0 r.1 i) (plan_is Demo named seen t i));
+      there = both (is_set t.settings Size) (is_set t.settings Seed && true) (set_by Demo named seen t Size (pos q.0) (ap (option_map pos) q.1))
+          (both (is_set t.settings Seed) true (set_by Demo named seen t Seed (pos r.0) (ap (option_map pos) r.1)) refl);
+    }
+
+pub reads_all : (ws : List (List ℕ)) (v : Verb) (seen : Seen) (c : Found) → IsOpened v ws → IsTaken v (drop (file_count v + 1) ws) seen → command_seen v seen ≡ Some c → Reads ws (meaning_of c)
+reads_all ws v seen c o taken e =
     let t = taken_behind ws v seen o taken in
-    let whole : Reads (verb_text v ∷ (o.files ++ o.named)) (command_of v t.settings) = reads_whole v o.files o.named t.settings o.files_len o.files_named t.settled (all_there v o.named seen level t e) in
-    subst (λ (u : List (List ℕ)). Reads u (meaning_of (command_seen v level seen))) (sym o.words_are)
-    (subst (λ (d : Command). Reads (verb_text v ∷ (o.files ++ o.named)) d) (sym (command_is v o.named seen level t e)) whole)
+    let is = seen_is v o.named seen c t e in
+    let whole : Reads (verb_text v ∷ (o.files ++ o.named)) (command_of v t.settings) = reads_whole v o.files o.named t.settings o.files_len o.files_named t.settled is.there in
+    subst (λ (u : List (List ℕ)). Reads u (meaning_of c)) (sym o.words_are)
+    (subst (λ (d : Command). Reads (verb_text v ∷ (o.files ++ o.named)) d) (sym is.means) whole)
 
 -- the numbers of a command are within their limits
 pub step_within : (v : Verb) (named : List (List ℕ)) (seen : Seen) → IsTaken v named seen → (1 ≤ unwrap_or seen.step 1) × (unwrap_or seen.step 1 ≤ 64)
@@ -351,14 +419,44 @@ plan_within v named seen t =
     let s = number_between Slab 1 64 4 named t.settings seen.slab (λ text value h. h) (omega arith) (omega arith) t.settled.named_are (t.held_are Slab) in
     record { some_workers = w.0; most_workers = w.1; some_slab = s.0; most_slab = s.1 }
 
--- what a command that was seen says
-pub step_seen : (v : Verb) (level : ℤ) (seen : Seen) → step_of (command_seen v level seen) ≡ unwrap_or seen.step 1
-step_seen Count level seen = refl
-step_seen Mesh level seen = refl
+pub size_within : (v : Verb) (named : List (List ℕ)) (seen : Seen) → IsTaken v named seen → (1 ≤ unwrap_or seen.size 1) × (unwrap_or seen.size 1 ≤ 128)
+size_within v named seen t = number_between Size 1 128 1 named t.settings seen.size (λ text value h. h) (omega arith) (omega arith) t.settled.named_are (t.held_are Size)
 
-pub plan_seen : (v : Verb) (level : ℤ) (seen : Seen) → IsPlan (record { workers = unwrap_or seen.workers 4; slab = unwrap_or seen.slab 4 }) → IfSome (mesh_of (command_seen v level seen)) (λ m. IsPlan m.plan)
-plan_seen Count level seen h = tt
-plan_seen Mesh level seen h = h
+-- what a command that was seen says
+pub step_seen : (v : Verb) (seen : Seen) (c : Found) → command_seen v seen ≡ Some c → (1 ≤ unwrap_or seen.step 1) × (unwrap_or seen.step 1 ≤ 64) → (1 ≤ step_of c) × (step_of c ≤ 64)
+step_seen Count seen c e h = let r = from_some_map _ seen.level c e in subst (λ (d : Found). (1 ≤ step_of d) × (step_of d ≤ 64)) r.2 h
+step_seen Mesh seen c e h = let r = from_some_map _ seen.level c e in subst (λ (d : Found). (1 ≤ step_of d) × (step_of d ≤ 64)) r.2 h
+step_seen Demo seen c e h =
+    let q = from_some_then (λ size. option_map (λ seed. found.Demo size seed (plan_seen seen)) seen.seed) seen.size c e in
+    let r = from_some_map (λ seed. found.Demo q.0 seed (plan_seen seen)) seen.seed c q.2 in
+    subst (λ (d : Found). (1 ≤ step_of d) × (step_of d ≤ 64)) r.2 (omega arith, omega arith)
+
+pub plan_is_seen : (v : Verb) (seen : Seen) (c : Found) → command_seen v seen ≡ Some c → IsPlan (plan_seen seen) → IfSome (plan_of c) IsPlan
+plan_is_seen Count seen c e h = let r = from_some_map _ seen.level c e in subst (λ (d : Found). IfSome (plan_of d) IsPlan) r.2 tt
+plan_is_seen Mesh seen c e h = let r = from_some_map _ seen.level c e in subst (λ (d : Found). IfSome (plan_of d) IsPlan) r.2 h
+plan_is_seen Demo seen c e h =
+    let q = from_some_then (λ size. option_map (λ seed. found.Demo size seed (plan_seen seen)) seen.seed) seen.size c e in
+    let r = from_some_map (λ seed. found.Demo q.0 seed (plan_seen seen)) seen.seed c q.2 in
+    subst (λ (d : Found). IfSome (plan_of d) IsPlan) r.2 h
+
+long_enough : (v : Verb) (ws : List (List ℕ)) → IsOpened v ws → file_count v < length ws
+long_enough v ws o = omega (arith, ap length o.words_are, length-append o.files o.named, o.files_len)
+
+pub source_seen : (v : Verb) (ws : List (List ℕ)) (seen : Seen) (c : Found) → IsOpened v ws → command_seen v seen ≡ Some c → (1 ≤ unwrap_or seen.size 1) × (unwrap_or seen.size 1 ≤ 128) → IsSourceWithin (source_of c) (length ws)
+source_seen Count ws seen c o e h = let r = from_some_map _ seen.level c e in subst (λ (d : Found). IsSourceWithin (source_of d) (length ws)) r.2 (long_enough Count ws o)
+source_seen Mesh ws seen c o e h = let r = from_some_map _ seen.level c e in let l = long_enough Mesh ws o in subst (λ (d : Found). IsSourceWithin (source_of d) (length ws)) r.2 (omega arith)
+source_seen Demo ws seen c o e h =
+    let q = from_some_then (λ size. option_map (λ seed. found.Demo size seed (plan_seen seen)) seen.seed) seen.size c e in
+    let r = from_some_map (λ seed. found.Demo q.0 seed (plan_seen seen)) seen.seed c q.2 in
+    subst (λ (d : Found). IsSourceWithin (source_of d) (length ws)) r.2 (subst (λ (s : Option ℕ). (1 ≤ unwrap_or s 1) × (unwrap_or s 1 ≤ 128)) q.1 h)
+
+pub output_seen : (v : Verb) (ws : List (List ℕ)) (seen : Seen) (c : Found) → IsOpened v ws → command_seen v seen ≡ Some c → IfSome (mesh_of c) (λ m. m.output < length ws)
+output_seen Count ws seen c o e = let r = from_some_map _ seen.level c e in subst (λ (d : Found). IfSome (mesh_of d) (λ m. m.output < length ws)) r.2 tt
+output_seen Mesh ws seen c o e = let r = from_some_map _ seen.level c e in subst (λ (d : Found). IfSome (mesh_of d) (λ m. m.output < length ws)) r.2 (long_enough Mesh ws o)
+output_seen Demo ws seen c o e =
+    let q = from_some_then (λ size. option_map (λ seed. found.Demo size seed (plan_seen seen)) seen.seed) seen.size c e in
+    let r = from_some_map (λ seed. found.Demo q.0 seed (plan_seen seen)) seen.seed c q.2 in
+    subst (λ (d : Found). IfSome (mesh_of d) (λ m. m.output < length ws)) r.2 tt
 
 -- A list reads as one command at most, and words are bad at one place at most.
 pub one_command : (ws : List (List ℕ)) (c d : Command) → Reads ws c → Reads ws d → c ≡ d

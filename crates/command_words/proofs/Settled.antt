@@ -10,7 +10,7 @@ use Rattle.std.proofs.lemmas.List.Folds.{find-append, list_any-append, list_all-
 use Rattle.command_line.specs.Grammar.{Setting, ReadsSetting, IsValue, IsNumber, is_of, is_set, same_name, name_text, required}
 use Rattle.command_line.specs.declared.Name.{Name}
 use Rattle.command_line.specs.declared.Verb.{Verb}
-use Rattle.command_line.specs.declared.Verb.TheVariants.{Count, Mesh}
+use Rattle.command_line.specs.declared.Verb.TheVariants.{Count, Mesh, Demo}
 use Rattle.command_words.specs.declared.settings.Seen.{Seen}
 use Rattle.command_words.specs.Settings.{held, said, value_of, is_known, IsSettled, IsTaken, IsTakenAs, IsStuck, IsStop}
 use Rattle.command_words.proofs.NamedWords.{same_is, same_self, settings_once, sample_text, sample_value, sample_reads}
@@ -188,6 +188,7 @@ fill v ws ss h (n ∷ names) k =
 required_known : (v : Verb) → list_all (is_known v) (required v) ≡ true
 required_known Count = refl
 required_known Mesh = refl
+required_known Demo = refl
 
 pub filled : (v : Verb) (ws : List (List ℕ)) (ss : List Setting) → IsSettled v ws ss → IsFilled v ws (required v)
 filled v ws ss h = fill v ws ss h (required v) (required_known v)

@@ -1,50 +1,81 @@
 -- What the code's commands mean by the grammar.
-use Rattle.std.specs.Prelude.{◌≡◌, ℕ, ◌+◌, ◌<◌, ℤ, Bool, true, false, ◌&&◌, not, nat_lt, ◌==◌, List, [], ◌∷◌, length, slice_index_or, Option, Some, None, unwrap_or}
+use Rattle.std.specs.Prelude.{◌≡◌, ℕ, ◌+◌, ◌<◌, ◌≤◌, ℤ, pos, option_map, option_and_then, Bool, true, false, ◌&&◌, not, nat_lt, ◌==◌, List, [], ◌∷◌, length, slice_index_or, Option, Some, None, unwrap_or}
 use Rattle.std.specs.Str.{bytes_eq}
+use Rattle.definitions.specs.States.{Shares}
 use Rattle.command_line.specs.declared.Verb.{Verb}
 use Rattle.command_line.specs.declared.Verb.TheVariants as verb
-use Rattle.command_line.specs.Grammar.{Command as Meaning, CountSigns, MakeMesh, verb_text}
+use Rattle.command_line.specs.Grammar.{Command as Meaning, CountSigns, MakeMesh, MakeDemo, verb_text}
 use Rattle.command_words.specs.declared.command.Command.{Command}
-use Rattle.command_words.specs.declared.command.Command.TheVariants.{Count, Mesh}
+use Rattle.command_words.specs.declared.command.Command.TheVariants.{Count, Mesh, Demo}
 use Rattle.command_words.specs.declared.command.MeshSettings.{MeshSettings}
+use Rattle.command_words.specs.declared.command.Source.{Source}
+use Rattle.command_words.specs.declared.command.Source.TheVariants.{File, Phantom}
+use Rattle.command_line.specs.declared.Plan.{Plan}
 use Rattle.command_words.specs.declared.settings.Seen.{Seen}
 
 abbrev pub meaning_of : Command → Meaning
 meaning_of (Count input level below step) = CountSigns input level below step
 meaning_of (Mesh input output level below step shares plan) = MakeMesh input output level below step shares plan
+meaning_of (Demo size seed plan) = MakeDemo size seed plan
 
--- the number of the word that names the input
-abbrev pub input_of : Command → ℕ
-input_of (Count input level below step) = input
-input_of (Mesh input output level below step shares plan) = input
+-- where its volume is from
+abbrev pub source_of : Command → Source
+source_of (Count input level below step) = File input
+source_of (Mesh input output level below step shares plan) = File input
+source_of (Demo size seed plan) = Phantom size seed
+
+-- the word that names the input is there, or the size is within its limits
+abbrev pub IsSourceWithin : Source → ℕ → Type 0
+IsSourceWithin (File input) count = input < count
+IsSourceWithin (Phantom size seed) count = (1 ≤ size) × (size ≤ 128)
 
 -- twice its level
 abbrev pub level_of : Command → ℤ
 level_of (Count input level below step) = level
 level_of (Mesh input output level below step shares plan) = level
+level_of (Demo size seed plan) = pos 399
 
 -- whether it speaks of the region below the level
 abbrev pub below_of : Command → Bool
 below_of (Count input level below step) = below
 below_of (Mesh input output level below step shares plan) = below
+below_of (Demo size seed plan) = false
 
 -- its step, in samples
 abbrev pub step_of : Command → ℕ
 step_of (Count input level below step) = step
 step_of (Mesh input output level below step shares plan) = step
+step_of (Demo size seed plan) = 1
 
 -- what a mesh alone has
 abbrev pub mesh_of : Command → Option MeshSettings
 mesh_of (Count input level below step) = None
 mesh_of (Mesh input output level below step shares plan) = Some (record { output = output; shares = shares; plan = plan })
+mesh_of (Demo size seed plan) = None
 
--- the command of a verb, by what its named words set
-abbrev pub command_seen : Verb → ℤ → Seen → Command
-command_seen verb.Count level seen = Count 1 level seen.below (unwrap_or seen.step 1)
-command_seen verb.Mesh level seen =
-    Mesh 1 2 level seen.below (unwrap_or seen.step 1)
-    (record { long = unwrap_or seen.long 1023; short = unwrap_or seen.short 1687 })
-    (record { workers = unwrap_or seen.workers 4; slab = unwrap_or seen.slab 4 })
+-- how its work is shared out
+abbrev pub plan_of : Command → Option Plan
+plan_of (Count input level below step) = None
+plan_of (Mesh input output level below step shares plan) = Some plan
+plan_of (Demo size seed plan) = Some plan
+
+-- the same, and the usual way where there is none
+abbrev pub plan_with : Command → Plan
+plan_with (Count input level below step) = record { workers = 4; slab = 4 }
+plan_with (Mesh input output level below step shares plan) = plan
+plan_with (Demo size seed plan) = plan
+
+abbrev pub shares_seen : Seen → Shares
+shares_seen seen = record { long = unwrap_or seen.long 1023; short = unwrap_or seen.short 1687 }
+
+abbrev pub plan_seen : Seen → Plan
+plan_seen seen = record { workers = unwrap_or seen.workers 4; slab = unwrap_or seen.slab 4 }
+
+-- the command of a verb, by what its named words set, if all are there that must be
+abbrev pub command_seen : Verb → Seen → Option Command
+command_seen verb.Count seen = option_map (λ level. Count 1 level seen.below (unwrap_or seen.step 1)) seen.level
+command_seen verb.Mesh seen = option_map (λ level. Mesh 1 2 level seen.below (unwrap_or seen.step 1) (shares_seen seen) (plan_seen seen)) seen.level
+command_seen verb.Demo seen = option_and_then (λ size. option_map (λ seed. Demo size seed (plan_seen seen)) seen.seed) seen.size
 
 -- word n is this text
 abbrev pub is_word : List (List ℕ) → ℕ → List ℕ → Bool

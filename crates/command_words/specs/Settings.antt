@@ -4,7 +4,7 @@ use Rattle.std.specs.List.{AllZip, list_all}
 use Rattle.std.specs.Option.{option_or}
 use Rattle.command_line.specs.Grammar.{Setting, ReadsSetting, is_among, is_of, same_name, required, optional}
 use Rattle.command_line.specs.declared.Name.{Name}
-use Rattle.command_line.specs.declared.Name.TheVariants.{Level, Below, Step, Long, Short, Workers, Slab}
+use Rattle.command_line.specs.declared.Name.TheVariants.{Level, Below, Step, Long, Short, Workers, Slab, Size, Seed}
 use Rattle.command_line.specs.declared.Verb.{Verb}
 use Rattle.command_words.specs.declared.settings.Setting.{Setting as Choice}
 use Rattle.command_words.specs.declared.settings.Setting.TheVariants as choice
@@ -19,6 +19,8 @@ setting_of (choice.Long n) = record { name = Long; value = pos n }
 setting_of (choice.Short n) = record { name = Short; value = pos n }
 setting_of (choice.Workers n) = record { name = Workers; value = pos n }
 setting_of (choice.Slab n) = record { name = Slab; value = pos n }
+setting_of (choice.Size n) = record { name = Size; value = pos n }
+setting_of (choice.Seed n) = record { name = Seed; value = pos n }
 
 -- what a name is set to by what was seen
 abbrev pub held : Seen → Name → Option ℤ
@@ -29,6 +31,8 @@ held seen Long = option_map pos seen.long
 held seen Short = option_map pos seen.short
 held seen Workers = option_map pos seen.workers
 held seen Slab = option_map pos seen.slab
+held seen Size = option_map pos seen.size
+held seen Seed = option_map pos seen.seed
 
 -- what a name is set to by one setting
 abbrev pub said : Setting → Name → Option ℤ

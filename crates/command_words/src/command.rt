@@ -1,6 +1,5 @@
-ghost use Rattle.std.specs.Prelude.{◌≡◌, IfSome, IfNone};
-ghost use Rattle.command_line.specs.Grammar.{CountSigns, MakeMesh};
-ghost use Rattle.command_words.specs.Commands.{input_of, level_of, below_of, step_of, mesh_of, meaning_of};
+ghost use Rattle.std.specs.Prelude.{◌≡◌};
+ghost use Rattle.command_words.specs.Commands.{source_of, level_of, below_of, step_of, mesh_of, plan_with};
 
 use command_line::Plan;
 use samples::Level;
@@ -26,6 +25,19 @@ pub enum Command {
         shares: Shares,
         plan: Plan,
     },
+    /// Count the signs of a volume that is made from a number, and tell of its mesh; at level 199.5.
+    Demo {
+        size: u32,
+        seed: u64,
+        plan: Plan,
+    },
+}
+
+/// Where a volume is from: from a file, which is named by the number of its word, or made from a size and a seed.
+#[derive(Clone, Copy)]
+pub enum Source {
+    File { input: usize },
+    Phantom { size: u32, seed: u64 },
 }
 
 /// What `mesh` alone has: the number of the word that names the output, the shares within which a
@@ -38,12 +50,18 @@ pub struct MeshSettings {
 }
 
 impl Command {
-    /// The number of the word that names the input.
-    pub fn input(&self) -> usize
-        ensures { result ≡ input_of self.now }
+    /// Where its volume is from.
+    pub fn source(&self) -> Source
+        ensures { result ≡ source_of self.now }
     {
         match self {
-            Command::Count { input, .. } | Command::Mesh { input, .. } => *input,
+            Command::Count { input, .. } | Command::Mesh { input, .. } => {
+                Source::File { input: *input }
+            }
+            Command::Demo { size, seed, .. } => Source::Phantom {
+                size: *size,
+                seed: *seed,
+            },
         }
     }
 
@@ -53,6 +71,10 @@ impl Command {
     {
         match self {
             Command::Count { level, .. } | Command::Mesh { level, .. } => *level,
+            Command::Demo { .. } => match Level::new(399) {
+                Some(level) => level,
+                None => unreachable!(),
+            },
         }
     }
 
@@ -62,6 +84,7 @@ impl Command {
     {
         match self {
             Command::Count { below, .. } | Command::Mesh { below, .. } => *below,
+            Command::Demo { .. } => false,
         }
     }
 
@@ -71,17 +94,29 @@ impl Command {
     {
         match self {
             Command::Count { step, .. } | Command::Mesh { step, .. } => *step,
+            Command::Demo { .. } => 1,
         }
     }
 
-    /// What `mesh` alone has. None: the command is `count`.
-    pub fn mesh(&self) -> Option<MeshSettings>
-        ensures settings { result ≡ mesh_of self.now }
-        ensures made { IfSome result (λ m. meaning_of self.now ≡ MakeMesh (input_of self.now) m.output (level_of self.now) (below_of self.now) (step_of self.now) m.shares m.plan) }
-        ensures counted { IfNone result (meaning_of self.now ≡ CountSigns (input_of self.now) (level_of self.now) (below_of self.now) (step_of self.now)) }
+    /// How its work is shared out, the usual way where nothing is to be shared out.
+    pub fn plan(&self) -> Plan
+        ensures { result ≡ plan_with self.now }
     {
         match self {
-            Command::Count { .. } => None,
+            Command::Count { .. } => Plan {
+                workers: 4,
+                slab: 4,
+            },
+            Command::Mesh { plan, .. } | Command::Demo { plan, .. } => *plan,
+        }
+    }
+
+    /// What `mesh` alone has. None: the command is another one.
+    pub fn mesh(&self) -> Option<MeshSettings>
+        ensures { result ≡ mesh_of self.now }
+    {
+        match self {
+            Command::Count { .. } | Command::Demo { .. } => None,
             Command::Mesh {
                 output,
                 shares,

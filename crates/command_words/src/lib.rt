@@ -9,7 +9,7 @@ mod read;
 mod settings;
 mod verbs;
 
-pub use command::{Command, MeshSettings};
+pub use command::{Command, MeshSettings, Source};
 pub use numbers::{halves, level, number};
 pub use read::{read_words, words_read_once};
 

@@ -4,7 +4,7 @@ ghost use Rattle.command_line.specs.Grammar.{name_text as name_text_lem};
 use command_line::Name;
 
 /// All names of named words, in the order of their numbers.
-pub const NAMES: [Name; 7] = [
+pub const NAMES: [Name; 9] = [
     Name::Level,
     Name::Below,
     Name::Step,
@@ -12,6 +12,8 @@ pub const NAMES: [Name; 7] = [
     Name::Short,
     Name::Workers,
     Name::Slab,
+    Name::Size,
+    Name::Seed,
 ];
 
 /// The text with which a named word begins.
@@ -26,5 +28,7 @@ pub fn name_text(name: Name) -> &'static [u8]
         Name::Short => b"short=",
         Name::Workers => b"workers=",
         Name::Slab => b"slab=",
+        Name::Size => b"size=",
+        Name::Seed => b"seed=",
     }
 }

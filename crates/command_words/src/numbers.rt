@@ -1,4 +1,4 @@
-ghost use Rattle.std.specs.Prelude.{◌≡◌, ◌<◌, ◌*◌, ◌+◌, ◌^◌, ℕ, ℤ, Some, IfSome, ◌≤◌, decimal, pos, neg_ℤ, option_map};
+ghost use Rattle.std.specs.Prelude.{◌≡◌, ◌<◌, ◌*◌, ◌+◌, ◌-◌, ◌^◌, ℕ, ℤ, Some, IfSome, ◌≤◌, decimal, pos, neg_ℤ, option_map};
 ghost use Rattle.std.specs.Option.{ForSome};
 ghost use Rattle.std.specs.Str.{bytes_eq};
 ghost use Rattle.command_line.specs.Grammar.{IsNumber, IsHalves, IsLevel};
@@ -40,6 +40,14 @@ pub fn number_within(text: &[u8], low: u32, high: u32) -> Option<u32>
         Some(n) if n >= low as u64 && n <= high as u64 => Some(n as u32),
         _ => None,
     }
+}
+
+/// The whole number below 2^64 that a text is, in the same form.
+pub fn any_number(text: &[u8]) -> Option<u64>
+    ensures text { IfSome result (λ n. IsNumber 0 (2 ^ 64 - 1) text.now (pos n)) }
+    ensures found { (n : ℕ) → n ≤ 2 ^ 64 - 1 → text.now ≡ decimal n → result ≡ Some n }
+{
+    number(text)
 }
 
 // Twice a whole number below 2^32, and a half more or none.

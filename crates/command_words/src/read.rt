@@ -1,12 +1,11 @@
 ghost use Rattle.std.specs.Prelude.{◌≡◌, ◌<◌, ◌≤◌, List, ℕ, ℤ, length, IfOk, IfErr, IfSome, IfNone, unwrap_or};
 ghost use Rattle.command_line.specs.Grammar.{Reads, IsBadPlace, IsPlan, Command as Meaning};
-ghost use Rattle.command_words.specs.Commands.{is_name as is_name_lem, AreNames, IsBadName, command_seen, input_of, step_of, mesh_of, meaning_of};
+ghost use Rattle.command_words.specs.Commands.{is_name as is_name_lem, AreNames, IsBadName, IsSourceWithin, command_seen, source_of, step_of, mesh_of, plan_of, meaning_of};
 
 use crate::command::Command;
 use crate::settings::{Seen, read_settings};
 use crate::verbs::{file_count, verb_of};
 use command_line::Verb;
-use samples::Level;
 use st_base::Words;
 
 // Whether word `n` can be a file's name.
@@ -29,30 +28,35 @@ fn bad_name(words: &Words, count: usize) -> Option<usize>
     None
 }
 
-// The command of a verb, by what its named words set.
-fn command_by(verb: Verb, level: Level, seen: &Seen) -> Command
+// The command of a verb, by what its named words set. None: a word that must be there is missing.
+fn command_by(verb: Verb, seen: &Seen) -> Option<Command>
     requires long { unwrap_or seen.now.long 1023 ≤ 1023 }
     requires short { unwrap_or seen.now.short 1687 ≤ 2047 }
-    ensures { result ≡ command_seen verb level seen.now }
+    ensures { result ≡ command_seen verb seen.now }
 {
     let below = seen.below;
     let step = seen.step.unwrap_or(1);
     match verb {
-        Verb::Count => Command::Count {
+        Verb::Count => Some(Command::Count {
             input: 1,
-            level,
+            level: seen.level?,
             below,
             step,
-        },
-        Verb::Mesh => Command::Mesh {
+        }),
+        Verb::Mesh => Some(Command::Mesh {
             input: 1,
             output: 2,
-            level,
+            level: seen.level?,
             below,
             step,
             shares: seen.shares(),
             plan: seen.plan(),
-        },
+        }),
+        Verb::Demo => Some(Command::Demo {
+            size: seen.size?,
+            seed: seen.seed?,
+            plan: seen.plan(),
+        }),
     }
 }
 
@@ -60,10 +64,10 @@ fn command_by(verb: Verb, level: Level, seen: &Seen) -> Command
 /// which no command goes on, or of words where all of them begin one.
 pub fn read_words(words: &Words) -> Result<Command, u64>
     ensures command { IfOk result (λ c. Reads words.now (meaning_of c)) }
-    ensures input { IfOk result (λ c. input_of c < length words.now) }
+    ensures source { IfOk result (λ c. IsSourceWithin (source_of c) (length words.now)) }
     ensures output { IfOk result (λ c. IfSome (mesh_of c) (λ m. m.output < length words.now)) }
     ensures step { IfOk result (λ c. (1 ≤ step_of c) × (step_of c ≤ 64)) }
-    ensures plan { IfOk result (λ c. IfSome (mesh_of c) (λ m. IsPlan m.plan)) }
+    ensures plan { IfOk result (λ c. IfSome (plan_of c) IsPlan) }
     ensures place { IfErr result (λ place. IsBadPlace words.now place) }
 {
     let Some(verb) = verb_of(words) else {
@@ -77,10 +81,10 @@ pub fn read_words(words: &Words) -> Result<Command, u64>
         Ok(seen) => seen,
         Err(place) => return Err(place),
     };
-    let Some(level) = seen.level else {
-        return Err(words.len() as u64);
-    };
-    Ok(command_by(verb, level, &seen))
+    match command_by(verb, &seen) {
+        Some(command) => Ok(command),
+        None => Err(words.len() as u64),
+    }
 }
 
 /// A list of words reads as one command at most, and words are bad at one place at most.

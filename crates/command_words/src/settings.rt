@@ -6,7 +6,7 @@ ghost use Rattle.command_words.specs.Settings.{setting_of, held, said, IsTakenAs
 
 use crate::ends::after_start;
 use crate::names::{NAMES, name_text};
-use crate::numbers::{level, number_within};
+use crate::numbers::{any_number, level, number_within};
 use crate::verbs::is_known;
 use command_line::{Name, Plan, Verb};
 use samples::Level;
@@ -23,6 +23,8 @@ pub enum Setting {
     Short(u32),
     Workers(u32),
     Slab(u32),
+    Size(u32),
+    Seed(u64),
 }
 
 /// What the named words have set so far.
@@ -35,6 +37,8 @@ pub struct Seen {
     pub short: Option<u32>,
     pub workers: Option<u32>,
     pub slab: Option<u32>,
+    pub size: Option<u32>,
+    pub seed: Option<u64>,
 }
 
 // What the text behind a name sets it to.
@@ -52,6 +56,8 @@ fn read_value(name: Name, text: &[u8]) -> Option<Setting>
         Name::Short => Some(Setting::Short(number_within(text, 0, 2047)?)),
         Name::Workers => Some(Setting::Workers(number_within(text, 1, 64)?)),
         Name::Slab => Some(Setting::Slab(number_within(text, 1, 64)?)),
+        Name::Size => Some(Setting::Size(number_within(text, 1, 128)?)),
+        Name::Seed => Some(Setting::Seed(any_number(text)?)),
     }
 }
 
@@ -81,6 +87,8 @@ impl Setting {
             Setting::Short(_) => Name::Short,
             Setting::Workers(_) => Name::Workers,
             Setting::Slab(_) => Name::Slab,
+            Setting::Size(_) => Name::Size,
+            Setting::Seed(_) => Name::Seed,
         }
     }
 }
@@ -98,6 +106,8 @@ impl Seen {
             short: None,
             workers: None,
             slab: None,
+            size: None,
+            seed: None,
         }
     }
 
@@ -113,6 +123,8 @@ impl Seen {
             Name::Short => self.short.is_some(),
             Name::Workers => self.workers.is_some(),
             Name::Slab => self.slab.is_some(),
+            Name::Size => self.size.is_some(),
+            Name::Seed => self.seed.is_some(),
         }
     }
 
@@ -129,6 +141,8 @@ impl Seen {
             Setting::Short(share) => seen.short = Some(share),
             Setting::Workers(count) => seen.workers = Some(count),
             Setting::Slab(size) => seen.slab = Some(size),
+            Setting::Size(size) => seen.size = Some(size),
+            Setting::Seed(seed) => seen.seed = Some(seed),
         }
         seen
     }

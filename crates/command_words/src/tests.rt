@@ -1,4 +1,4 @@
-use crate::{halves, level, number, read_words};
+use crate::{Source, halves, level, number, read_words};
 use st_base::{NoMemory, Words};
 use std::alloc::Global;
 use std::test::Fail;
@@ -55,6 +55,13 @@ fn places_of_bad_words(rt: HostRuntime) -> Result<(), Fail> {
             5,
         ),
         (["count", "slab=65", "a", "level=-0.5"].as_slice(), 2),
+        (["demo", "size=129", "seed=7"].as_slice(), 1),
+        (["demo", "seed=7"].as_slice(), 2),
+        (["demo", "size=1", "seed=7", "level=1"].as_slice(), 3),
+        (
+            ["demo", "size=1", "seed=18446744073709551616"].as_slice(),
+            2,
+        ),
     ] {
         let words = words_of(rt.alloc(), texts)?;
         assert_eq!(rt; read_words(&words).err(), Some(place), "of {texts:?}");
@@ -62,11 +69,12 @@ fn places_of_bad_words(rt: HostRuntime) -> Result<(), Fail> {
     Ok(())
 }
 
-// What a command says: the input, twice the level, the side and the step, and of a mesh the output,
-// the shares of long and of short edges, the workers and the size of a slab.
+// What a command says: the input, or the size and the seed of a demo; twice the level, the side and the step, and of a mesh
+// the output, the shares of long and of short edges, the workers and the size of a slab.
 #[derive(Clone, Copy, Debug, PartialEq, Eq)]
 struct Terms {
-    input: usize,
+    input: Option<usize>,
+    demo: Option<(u32, u64)>,
     twice: i64,
     below: bool,
     step: u32,
@@ -74,7 +82,8 @@ struct Terms {
 }
 
 const USUAL: Terms = Terms {
-    input: 1,
+    input: Some(1),
+    demo: None,
     twice: 2,
     below: false,
     step: 1,
@@ -97,8 +106,13 @@ fn terms_of(alloc: Global, texts: &[&str]) -> Result<Terms, Fail> {
         )),
         None => None,
     };
+    let (input, demo) = match command.source() {
+        Source::File { input } => (Some(input), None),
+        Source::Phantom { size, seed } => (None, Some((size, seed))),
+    };
     Ok(Terms {
-        input: command.input(),
+        input,
+        demo,
         twice: command.level().twice(),
         below: command.below(),
         step: command.step(),
@@ -157,6 +171,16 @@ fn commands(rt: HostRuntime) -> Result<(), Fail> {
         ..USUAL
     };
     assert_eq!(rt; terms_of(alloc, &count)?, wanted);
+
+    let demo = ["demo", "seed=7", "slab=1", "size=128"];
+    let wanted = Terms {
+        input: None,
+        demo: Some((128, 7)),
+        twice: 399,
+        mesh: None,
+        ..USUAL
+    };
+    assert_eq!(rt; terms_of(alloc, &demo)?, wanted);
     Ok(())
 }
 

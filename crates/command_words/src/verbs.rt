@@ -25,6 +25,9 @@ pub fn verb_of(words: &Words) -> Option<Verb>
     if is_word(words, 0, b"mesh") {
         return Some(Verb::Mesh);
     }
+    if is_word(words, 0, b"demo") {
+        return Some(Verb::Demo);
+    }
     None
 }
 
@@ -35,6 +38,7 @@ pub fn file_count(verb: Verb) -> usize
     match verb {
         Verb::Count => 1,
         Verb::Mesh => 2,
+        Verb::Demo => 0,
     }
 }
 
@@ -45,8 +49,17 @@ pub fn is_known(verb: Verb, name: Name) -> bool
     match verb {
         Verb::Count => match name {
             Name::Level | Name::Below | Name::Step => true,
-            Name::Long | Name::Short | Name::Workers | Name::Slab => false,
+            Name::Long | Name::Short | Name::Workers | Name::Slab | Name::Size | Name::Seed => {
+                false
+            }
         },
-        Verb::Mesh => true,
+        Verb::Mesh => match name {
+            Name::Size | Name::Seed => false,
+            _ => true,
+        },
+        Verb::Demo => match name {
+            Name::Size | Name::Seed | Name::Workers | Name::Slab => true,
+            _ => false,
+        },
     }
 }

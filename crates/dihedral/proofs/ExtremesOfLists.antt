@@ -15,10 +15,10 @@ is_smaller a b = is_less b.cosine a.cosine
 abbrev pub is_larger : Extreme → Extreme → Bool
 is_larger a b = is_less a.cosine b.cosine
 
-larger_is_weak : IsWeakOrder IsAngle is_larger
+pub larger_is_weak : IsWeakOrder IsAngle is_larger
 larger_is_weak = record { less = λ x y z p q r. less_chain x.cosine y.cosine z.cosine p.den q.den r.den; not_less = λ x y z p q r. not_less_chain x.cosine y.cosine z.cosine p.den q.den r.den }
 
-smaller_is_weak : IsWeakOrder IsAngle is_smaller
+pub smaller_is_weak : IsWeakOrder IsAngle is_smaller
 smaller_is_weak =
     record {
       less = λ x y z p q r h k. less_chain z.cosine y.cosine x.cosine r.den q.den p.den k h;

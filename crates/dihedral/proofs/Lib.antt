@@ -1,4 +1,3 @@
-pub mod SignedProducts
 pub mod Quotients
 pub mod LeadingBits
 pub mod SignedOrder
@@ -12,3 +11,7 @@ pub mod FaceSquares
 pub mod RunningExtremes
 pub mod SixAngles
 pub mod AnglesAreFractions
+pub mod CoveredAngles
+pub mod SameShapes
+pub mod QuickBounds
+pub mod Stars

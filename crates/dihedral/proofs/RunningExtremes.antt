@@ -14,10 +14,10 @@ if-lowest : (t : Bool) (x a : Extreme) → (if t then angle_in_lowest_terms x el
 if-lowest true x a = refl
 if-lowest false x a = refl
 
-smaller-lowest : (a x : Extreme) → IsAngle a → IsAngle x → lesser is_smaller (Some (angle_in_lowest_terms a)) (angle_in_lowest_terms x) ≡ angle_in_lowest_terms (lesser is_smaller (Some a) x)
+pub smaller-lowest : (a x : Extreme) → IsAngle a → IsAngle x → lesser is_smaller (Some (angle_in_lowest_terms a)) (angle_in_lowest_terms x) ≡ angle_in_lowest_terms (lesser is_smaller (Some a) x)
 smaller-lowest a x f g = ap (λ t. if t then angle_in_lowest_terms x else angle_in_lowest_terms a) (is_less-lowest a.cosine x.cosine f.den g.den) ∙ if-lowest (is_less a.cosine x.cosine) x a
 
-larger-lowest : (a x : Extreme) → IsAngle a → IsAngle x → lesser is_larger (Some (angle_in_lowest_terms a)) (angle_in_lowest_terms x) ≡ angle_in_lowest_terms (lesser is_larger (Some a) x)
+pub larger-lowest : (a x : Extreme) → IsAngle a → IsAngle x → lesser is_larger (Some (angle_in_lowest_terms a)) (angle_in_lowest_terms x) ≡ angle_in_lowest_terms (lesser is_larger (Some a) x)
 larger-lowest a x f g = ap (λ t. if t then angle_in_lowest_terms x else angle_in_lowest_terms a) (is_less-lowest x.cosine a.cosine g.den f.den) ∙ if-lowest (is_less x.cosine a.cosine) x a
 
 pub one_more : (e n : Extremes) (x : Extreme) (xs : List Extreme) → AreFractions e → IsAngle x → n.least ≡ lesser is_smaller (Some e.least) x → n.greatest ≡ lesser is_larger (Some e.greatest) x → Some (extremes_in_lowest_terms e) ≡ extremes_of xs → Some (extremes_in_lowest_terms n) ≡ extremes_of (xs ++ angle_in_lowest_terms x ∷ [])

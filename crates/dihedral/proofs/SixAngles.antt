@@ -5,7 +5,6 @@ use Rattle.definitions.specs.declared.Extreme.{Extreme}
 use Rattle.definitions.specs.Angles.{edge_cosine, extremes_of}
 use Rattle.dihedral.specs.TetAngles.{six_angles}
 use Rattle.dihedral.proofs.ExtremesOfLists.{some_extremes}
-use Rattle.dihedral.specs.Bounds.{IsWithin}
 use Rattle.dihedral.specs.Fractions.{in_lowest_terms, square_at}
 
 pub edge_cosine-is : (tet : List Place) (edge : List ℕ) → in_lowest_terms (square_at tet edge) ≡ edge_cosine tet edge
@@ -14,9 +13,6 @@ edge_cosine-is tet edge = refl
 
 pub six_after : {X : Type 0} (xs : List X) (a b c d e f : X) → (((((xs ++ a ∷ []) ++ b ∷ []) ++ c ∷ []) ++ d ∷ []) ++ e ∷ []) ++ f ∷ [] ≡ xs ++ a ∷ b ∷ c ∷ d ∷ e ∷ f ∷ []
 six_after xs a b c d e f = simp append_assoc
-
-pub wider : (p : Place) → IsWithin 12286 p → IsWithin 301891592 p
-wider p h = record { x = let b = h.x in omega arith; y = let b = h.y in omega arith; z = let b = h.z in omega arith }
 
 none_of_some : (x : Extreme) (xs : List Extreme) → None ≡ extremes_of (x ∷ xs) → ⊥
 none_of_some x xs h = let some = some_extremes x xs in let e = some.1 in cc

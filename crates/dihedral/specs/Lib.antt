@@ -1,4 +1,6 @@
-pub mod Bounds
 pub mod Fractions
+pub mod Quick
+pub mod Shapes
+pub mod Stars
 pub mod TetAngles
 pub mod TetFaces

@@ -1,13 +1,12 @@
-ghost use Rattle.std.specs.Prelude.{◌≡◌, ◌<◌, ◌↔◌, IsTrue, pos, ◌<ℤ◌};
+ghost use Rattle.std.specs.Prelude.{◌≡◌, ◌<◌, pos, ◌<ℤ◌};
 ghost use Rattle.definitions.specs.Angles.{edge_cosine};
 ghost use Rattle.definitions.specs.Vectors.{det};
-ghost use Rattle.dihedral.specs.Bounds.{AreNear};
+ghost use Rattle.determinants.specs.Bounds.{AreNear};
 ghost use Rattle.dihedral.specs.Fractions.{IsFraction};
 ghost use Rattle.dihedral.specs.TetAngles.{edge_at};
 
 use crate::faces::Faces;
 use crate::fractions::lowest;
-use crate::vectors::{cross, dot, minus};
 use definitions::{Cosine, Place};
 
 /// The square of the cosine of the angle at an edge, with the cosine's sign, in lowest terms.
@@ -21,13 +20,4 @@ pub fn edge_cosine(tet: [Place; 4], edge: u8) -> Cosine
     ensures fraction { IsFraction result }
 {
     lowest(Faces::new(tet).square_at(edge))
-}
-
-/// Whether the tetrahedron has a volume, and its nodes stand in the order that makes it positive.
-pub fn positive(tet: [Place; 4]) -> bool
-    requires { AreNear tet }
-    ensures { IsTrue result ↔ (pos 0 <ℤ det tet) }
-{
-    let [a, b, c, d] = tet;
-    dot(minus(b, a), cross(minus(c, a), minus(d, a))) > 0
 }

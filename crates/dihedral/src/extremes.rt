@@ -4,12 +4,12 @@ ghost use Rattle.definitions.specs.declared.Extreme.{Extreme};
 ghost use Rattle.definitions.specs.Angles.{extremes_of, is_less};
 ghost use Rattle.definitions.specs.Lists.{lesser};
 ghost use Rattle.definitions.specs.Vectors.{det};
-ghost use Rattle.dihedral.specs.Bounds.{AreNear};
+ghost use Rattle.determinants.specs.Bounds.{AreNear};
 ghost use Rattle.dihedral.specs.Fractions.{AreFractions, IsAngle, IsFraction};
 ghost use Rattle.dihedral.specs.TetAngles.{six_angles};
 
-use crate::Running;
 use crate::fractions::compare;
+use crate::running::Running;
 use definitions::{Cosine, Extreme, Extremes, Place};
 use std::cmp::Ordering;
 

@@ -1,18 +1,18 @@
 ghost use Rattle.std.specs.Prelude.{◌≡◌, ◌≤◌, unsigned_abs, neg_ℤ};
 ghost use Rattle.std.specs.Int.{int_signum};
 ghost use Rattle.definitions.specs.Vectors.{dot, minus};
-ghost use Rattle.dihedral.specs.Bounds.{IsWithin};
+ghost use Rattle.bcc_lattice.specs.Bounds.{IsSmallPlace};
 ghost use Rattle.dihedral.specs.Fractions.{IsFraction, normal, opposite, square_between};
 
-use crate::vectors::{cross, dot, minus};
 use definitions::{Cosine, Place};
+use determinants::{cross, dot, minus};
 
 /// A face of a tetrahedron: the normal whose length is twice the face's area, and the square of that length.
 #[derive(Clone, Copy)]
 pub(crate) struct Face {
     pub(crate) normal: Place,
     square: u64,
-    ghost within: { IsWithin 301891592 normal },
+    ghost within: { IsSmallPlace 301891592 normal },
     ghost squared: { square ≡ unsigned_abs (dot normal normal) },
     ghost some: { 1 ≤ square },
 }
@@ -20,8 +20,8 @@ pub(crate) struct Face {
 impl Face {
     /// The triangle of three places; they turn to the left for one at whom its normal points.
     pub(crate) fn new(p: Place, q: Place, r: Place) -> Face
-        requires q { IsWithin 12286 (minus q p) }
-        requires r { IsWithin 12286 (minus r p) }
+        requires q { IsSmallPlace 12286 (minus q p) }
+        requires r { IsSmallPlace 12286 (minus r p) }
         requires some { 1 ≤ unsigned_abs (dot (normal p q r) (normal p q r)) }
         ensures { result.normal ≡ normal p q r }
     {

@@ -1,7 +1,7 @@
 ghost use Rattle.std.specs.Prelude.{◌≡◌, ◌<◌, List, pos, ◌<ℤ◌};
 ghost use Rattle.definitions.specs.declared.Place.{Place};
 ghost use Rattle.definitions.specs.Vectors.{det};
-ghost use Rattle.dihedral.specs.Bounds.{AreNear};
+ghost use Rattle.determinants.specs.Bounds.{AreNear};
 ghost use Rattle.dihedral.specs.Fractions.{IsFraction, square_at};
 ghost use Rattle.dihedral.specs.TetAngles.{edge_at};
 

@@ -5,22 +5,25 @@ ghost use Rattle.definitions.specs.declared.Place.{Place};
 ghost use Rattle.definitions.specs.Angles.{extremes_of, is_less};
 ghost use Rattle.definitions.specs.Lists.{lesser};
 ghost use Rattle.definitions.specs.Vectors.{det};
-ghost use Rattle.dihedral.specs.Bounds.{AreNear};
-ghost use Rattle.dihedral.specs.Fractions.{AreFractions, IsAngle, angle_in_lowest_terms};
+ghost use Rattle.determinants.specs.Bounds.{AreNear};
+ghost use Rattle.dihedral.specs.Fractions.{AreFractions, IsAngle, angle_in_lowest_terms, in_lowest_terms as in_lowest_terms_lem};
+ghost use Rattle.dihedral.specs.Quick.{Bound};
+ghost use Rattle.dihedral.specs.Shapes.{Between, Covers, Widens};
 ghost use Rattle.dihedral.specs.TetFaces.{AreFaces};
 ghost use Rattle.dihedral.specs.TetAngles.{angle_of, edge_at, six_angles};
 
+use crate::bounds::{Bounds, bound_of};
 use crate::extremes::is_less;
 use crate::faces::Faces;
 use crate::fractions::lowest;
 use definitions::{Extreme, Extremes, Place};
 use std::marker::Model;
 
-/// The extremes of the angles of tetrahedra so far, which are taken one after another.
+/// The extremes of the angles of tetrahedra so far, each angle compared exactly.
 ///
 /// No fraction is brought to lowest terms before the end. Contracts see what [`Running::found`] gives.
 #[derive(Drop)]
-pub struct Running {
+pub(crate) struct Running {
     // not in lowest terms
     found: Option<Extremes>,
 }
@@ -40,17 +43,19 @@ impl Model for Running {
 
 impl Running {
     /// Of no tetrahedra.
-    pub fn new() -> Running
+    pub(crate) fn new() -> Running
         ensures { result ≡ None }
     {
         Running { found: None }
     }
 
     /// Takes tetrahedron `number` with these nodes at these places.
-    pub fn take(&mut self, tet: [Place; 4], number: u64, nodes: [u32; 4])
+    pub(crate) fn take(&mut self, tet: [Place; 4], number: u64, nodes: [u32; 4])
         requires near { AreNear tet }
         requires positive { pos 0 <ℤ det tet }
-        ensures { (xs : List Extreme) → self.old ≡ extremes_of xs → self.new ≡ extremes_of (xs ++ six_angles tet number nodes) }
+        ensures angles { (xs : List Extreme) → self.old ≡ extremes_of xs → self.new ≡ extremes_of (xs ++ six_angles tet number nodes) }
+        ensures covers { Covers self.new tet }
+        ensures widens { Widens self.old self.new }
     {
         let faces = Faces::new(tet);
         self.offer(&angle_at(&faces, 0, number, nodes));
@@ -65,7 +70,9 @@ impl Running {
     #[inline(always)]
     fn offer(&mut self, angle: &Extreme)
         requires { IsAngle angle.now }
-        ensures { (xs : List Extreme) → self.old ≡ extremes_of xs → self.new ≡ extremes_of (xs ++ angle_in_lowest_terms angle.now ∷ []) }
+        ensures angle { (xs : List Extreme) → self.old ≡ extremes_of xs → self.new ≡ extremes_of (xs ++ angle_in_lowest_terms angle.now ∷ []) }
+        ensures covers { Between self.new (in_lowest_terms_lem angle.now.cosine) }
+        ensures widens { Widens self.old self.new }
     {
         match &mut self.found {
             Some(found) => improve(found, angle),
@@ -78,8 +85,24 @@ impl Running {
         }
     }
 
+    /// Bounds that are within the extremes so far.
+    pub(crate) fn bounds(&self) -> Bounds
+        ensures { Bound result self.now }
+    {
+        match &self.found {
+            Some(found) => Bounds {
+                least: bound_of(found.least.cosine, 1),
+                greatest: bound_of(found.greatest.cosine, -1),
+            },
+            None => Bounds {
+                least: 0,
+                greatest: 0,
+            },
+        }
+    }
+
     /// The extremes of all that was taken, if there was a tetrahedron.
-    pub fn found(self) -> Option<Extremes>
+    pub(crate) fn found(self) -> Option<Extremes>
         ensures value { result ≡ self }
         ensures fractions { ForSome result AreFractions }
     {

@@ -2,10 +2,13 @@
 use Rattle.std.specs.Prelude.{◌≡◌, ℕ, List, [], ◌∷◌, ◌++◌, codes, refl, pos, negsuc}
 use Rattle.std.specs.Fmt.{digits}
 use Rattle.definitions.specs.declared.Place.{Place}
+use Rattle.definitions.specs.Angles.{angles, edge_cosine, extremes_of, greatest_divisor}
+use Rattle.definitions.specs.Lists.{least_by}
 use Rattle.definitions.specs.Places.{place}
 use Rattle.mesh_texts.specs.Coordinates.{coordinate_text}
 use Rattle.mesh_texts.specs.Lines.{node_line, ele_line}
 use Rattle.mesh_texts.specs.Files.{node_text, ele_text, counts_text}
+use Rattle.mesh_texts.specs.Report.{mesh_extremes, report, report_text}
 
 zero : coordinate_text (pos 0) ≡ codes "0.0000000000000"
 unfolding digits
@@ -154,3 +157,13 @@ no_nodes = refl
 no_tetrahedra : ele_text [] ≡ codes "0 4 0\n"
 unfolding ele_text digits
 no_tetrahedra = refl
+
+told : report (record { places = places; tets = tets }) ≡ codes "nodes 15\ntetrahedra 24\n"
+    ++ (codes "least +1/4 tetrahedron 0 edge 1 7\n"
+    ++ codes "greatest 0/1 tetrahedron 0 edge 0 7\n")
+unfolding report_text mesh_extremes angles counts_text extremes_of least_by edge_cosine greatest_divisor digits
+told = refl
+
+nothing_told : report (record { places = []; tets = [] }) ≡ codes "nodes 0\ntetrahedra 0\nno tetrahedra\n"
+unfolding report_text mesh_extremes angles counts_text extremes_of least_by digits
+nothing_told = refl

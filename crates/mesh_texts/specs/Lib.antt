@@ -1,3 +1,4 @@
 pub mod Coordinates
 pub mod Lines
 pub mod Files
+pub mod Report

@@ -1,9 +1,10 @@
 -- Decimal numbers: how long they are, and how zeros come in front of one.
-use Rattle.std.proofs.Common.{◌≡◌, ℕ, zero, suc, ◌+◌, ◌-◌, ◌*◌, ◌/◌, ◌%◌, ◌^◌, ◌<◌, ◌≤◌, List, [], ◌∷◌, ◌++◌, length, replicate, decimal, refl, ap, sym, inl, inr, arith, append_assoc, length-append}
+use Rattle.std.proofs.Common.{◌≡◌, ℕ, zero, suc, ◌+◌, ◌-◌, ◌*◌, ◌/◌, ◌%◌, ◌^◌, ◌<◌, ◌≤◌, List, [], ◌∷◌, ◌++◌, length, drop, take, replicate, decimal, refl, ap, sym, ◌∙◌, inl, inr, arith, append_assoc, length-append}
+use Rattle.std.specs.Prelude.{slice_set}
 use Rattle.std.proofs.Math.Nat.{pow-suc}
 use Rattle.std.proofs.lemmas.Bool.{cases_lt}
 use Rattle.std.proofs.lemmas.Fmt.{decimal_digit, decimal_step, length-decimal-le}
-use Rattle.std.proofs.lemmas.List.{length-replicate, replicate-append-replicate}
+use Rattle.std.proofs.lemmas.List.{length-replicate, take_at, replicate-append-replicate}
 use Rattle.mesh_texts.specs.Coordinates.{padded_decimal}
 
 -- how long a number is at most
@@ -67,3 +68,16 @@ one_before_decimals parts within = one_before 12 (parts * 5 ^ 13) (omega arith) 
 
 pub length_decimals : (parts : ℕ) → parts < 8192 → length (padded_decimal 13 (parts * 5 ^ 13)) ≡ 13
 length_decimals parts within = length_padded 13 (parts * 5 ^ 13) (omega arith) (omega arith) (omega arith)
+
+-- the fraction: the digits with a point in place of the one in front
+pub fraction_bytes : (start parts : ℕ) (rest new : List ℕ) → parts < 8192 → start + length (decimal (10000000000000 + parts * 5 ^ 13)) ≡ 14 → drop start new ≡ decimal (10000000000000 + parts * 5 ^ 13) ++ rest →
+    take 14 (slice_set new 0 46) ≡ 46 ∷ padded_decimal 13 (parts * 5 ^ 13)
+fraction_bytes start parts rest new within end written =
+    let e = one_before_decimals parts within in
+    let l = length_decimals parts within in
+    let zero : start ≡ 0 = (let f = ap length e in omega arith) in
+    ap (λ xs. take 14 (slice_set xs 0 46)) (ap (λ n. drop n new) (sym zero) ∙ written ∙ ap (λ d. d ++ rest) e)
+    ∙ ap (λ xs. 46 ∷ xs) (take_at (padded_decimal 13 (parts * 5 ^ 13)) rest 13 l)
+
+pub fraction_length : (parts : ℕ) → parts < 8192 → length (decimal (10000000000000 + parts * 5 ^ 13)) ≤ 14
+fraction_length parts within = length-decimal-le 14 (10000000000000 + parts * 5 ^ 13) (omega arith) (omega arith) (omega arith)

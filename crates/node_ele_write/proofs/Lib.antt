@@ -3,3 +3,4 @@ pub mod Files
 pub mod Growing
 pub mod Lines
 pub mod Pieces
+pub mod Rows

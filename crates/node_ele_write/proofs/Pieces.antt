@@ -13,7 +13,7 @@ on_err (Ok x) p = tt
 on_err (Err e) p = p
 
 -- a part of a text is a part of a longer one
-part_longer : (a b : Option (List ℕ)) (xs ys : List ℕ) → AppendsPart a b xs → AppendsPart a b (xs ++ ys)
+pub part_longer : (a b : Option (List ℕ)) (xs ys : List ℕ) → AppendsPart a b xs → AppendsPart a b (xs ++ ys)
 part_longer a b xs ys p =
     let n = p.0 in
     let within : n ≤ length xs = p.1 in
@@ -27,7 +27,7 @@ take_behind (x ∷ xs) ys n =
     rw e (ap (λ (t : List ℕ). x ∷ t) (take_behind xs ys n))
 
 -- a text, and then a part of what stands behind it
-part_behind : (a b c : Option (List ℕ)) (xs ys : List ℕ) → Appends a b xs → AppendsPart b c ys → AppendsPart a c (xs ++ ys)
+pub part_behind : (a b c : Option (List ℕ)) (xs ys : List ℕ) → Appends a b xs → AppendsPart b c ys → AppendsPart a c (xs ++ ys)
 part_behind a b c xs ys h p =
     let n = p.0 in
     (length xs + n, omega (arith, length-append xs ys, p.1), subst (λ (t : List ℕ). Appends a c t) (sym (take_behind xs ys n)) (Appends-trans a b c xs (take n ys) h p.2))

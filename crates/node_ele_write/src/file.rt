@@ -10,8 +10,9 @@ ghost use Rattle.node_ele_write.specs.Pieces.{KeepsBack};
 
 use crate::fault::PutFault;
 use crate::line::ROOM;
+use crate::pen::Pen;
 use crate::put::{WriteFault, put_all};
-use crate::text::{add, ele_line, node_line};
+use crate::text::add;
 use st_base::{Desk, NoMemory, Place, Port};
 use std::alloc::Global;
 
@@ -90,6 +91,7 @@ fn put_node<D: Desk>(
     desk: &mut D,
     port: Port,
     buffer: &mut Vec<u8>,
+    pen: &mut Pen,
     number: u32,
     place: Place,
     step: u32,
@@ -114,7 +116,7 @@ fn put_node<D: Desk>(
     ensures others { (p : Port) → p ≢ port → D.ports desk.new p ≡ D.ports desk.old p }
     ensures held { (n : List ℕ) → D.held desk.new n ≡ D.held desk.old n }
 {
-    match node_line(buffer, number, place, step) {
+    match pen.node_line(buffer, number, place, step) {
         Ok(()) => put_full(desk, port, buffer),
         Err(NoMemory) => Err(PutFault::NoMemory),
     }
@@ -125,6 +127,7 @@ fn put_tet<D: Desk>(
     desk: &mut D,
     port: Port,
     buffer: &mut Vec<u8>,
+    pen: &mut Pen,
     number: u64,
     nodes: [u32; 4],
 ) -> Result<(), PutFault>
@@ -147,7 +150,7 @@ fn put_tet<D: Desk>(
     ensures others { (p : Port) → p ≢ port → D.ports desk.new p ≡ D.ports desk.old p }
     ensures held { (n : List ℕ) → D.held desk.new n ≡ D.held desk.old n }
 {
-    match ele_line(buffer, number, nodes) {
+    match pen.ele_line(buffer, number, nodes) {
         Ok(()) => put_full(desk, port, buffer),
         Err(NoMemory) => Err(PutFault::NoMemory),
     }
@@ -158,6 +161,7 @@ fn put_node_lines<D: Desk>(
     desk: &mut D,
     port: Port,
     buffer: &mut Vec<u8>,
+    pen: &mut Pen,
     places: &[Place],
     step: u32,
 ) -> Result<(), PutFault>
@@ -183,7 +187,7 @@ fn put_node_lines<D: Desk>(
     ensures held { (n : List ℕ) → D.held desk.new n ≡ D.held desk.old n }
 {
     for (number, place) in places.iter().enumerate() {
-        put_node(desk, port, buffer, number as u32, *place, step)?;
+        put_node(desk, port, buffer, pen, number as u32, *place, step)?;
     }
     Ok(())
 }
@@ -193,6 +197,7 @@ fn put_tet_lines<D: Desk>(
     desk: &mut D,
     port: Port,
     buffer: &mut Vec<u8>,
+    pen: &mut Pen,
     tets: &[[u32; 4]],
 ) -> Result<(), PutFault>
     requires { (D.ports desk.old port).is_open ≡ true }
@@ -215,7 +220,7 @@ fn put_tet_lines<D: Desk>(
     ensures held { (n : List ℕ) → D.held desk.new n ≡ D.held desk.old n }
 {
     for (number, nodes) in tets.iter().enumerate() {
-        put_tet(desk, port, buffer, number as u64, *nodes)?;
+        put_tet(desk, port, buffer, pen, number as u64, *nodes)?;
     }
     Ok(())
 }
@@ -253,7 +258,10 @@ pub fn put_nodes<D: Desk>(
     let Ok(mut buffer) = begun(alloc, places.len(), b" 3 0 0\n") else {
         return Err(PutFault::NoMemory);
     };
-    put_node_lines(desk, port, &mut buffer, places, step)?;
+    let Ok(mut pen) = Pen::new(alloc) else {
+        return Err(PutFault::NoMemory);
+    };
+    put_node_lines(desk, port, &mut buffer, &mut pen, places, step)?;
     put_piece(desk, port, &buffer)
 }
 
@@ -288,6 +296,9 @@ pub fn put_tets<D: Desk>(
     let Ok(mut buffer) = begun(alloc, tets.len(), b" 4 0\n") else {
         return Err(PutFault::NoMemory);
     };
-    put_tet_lines(desk, port, &mut buffer, tets)?;
+    let Ok(mut pen) = Pen::new(alloc) else {
+        return Err(PutFault::NoMemory);
+    };
+    put_tet_lines(desk, port, &mut buffer, &mut pen, tets)?;
     put_piece(desk, port, &buffer)
 }

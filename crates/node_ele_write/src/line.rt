@@ -9,10 +9,10 @@ use std::marker::Model;
 pub const ROOM: usize = 112;
 
 /// The fraction 1/8192 in units of the thirteenth decimal.
-const FRACTION: u64 = 1_220_703_125;
+pub const FRACTION: u64 = 1_220_703_125;
 
 /// One in units of the thirteenth decimal.
-const ONE: u64 = 10_000_000_000_000;
+pub const ONE: u64 = 10_000_000_000_000;
 
 /// A text of at most [`ROOM`] bytes that grows at its front. Contracts see its bytes.
 #[derive(Drop)]

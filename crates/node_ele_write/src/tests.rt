@@ -1,4 +1,5 @@
-use crate::{PutFault, coordinate_text, counts_text, ele_line, node_line, put_nodes, put_tets};
+use crate::{PutFault, coordinate_text, ele_line, node_line, put_nodes, put_tets, report_text};
+use definitions::{Cosine, Extreme, Extremes};
 use desk_mem::MemDesk;
 use st_base::{Desk, NoMemory, Place, Port};
 use std::alloc::{AllocError, Global};
@@ -45,8 +46,38 @@ fn writes_lines(rt: HostRuntime) -> Result<(), NoMemory> {
     out.clear();
     ele_line(&mut out, 23, [7, 12, 14, 13])?;
     assert_eq!(rt; out.as_slice(), b"23 7 12 14 13\n".as_slice());
-    let counts = counts_text(rt.alloc(), 15, 24)?;
-    assert_eq!(rt; counts.as_slice(), b"nodes 15\ntetrahedra 24\n".as_slice());
+    Ok(())
+}
+
+// An angle whose cosine has a square of a half, with a sign.
+fn angle(sign: i8, tet: u64) -> Extreme {
+    Extreme {
+        cosine: Cosine {
+            sign,
+            num: 1,
+            den: 2,
+        },
+        tet,
+        ends: [3, 9],
+    }
+}
+
+#[test]
+fn reports(rt: HostRuntime) -> Result<(), NoMemory> {
+    let found = Extremes {
+        least: angle(1, 10),
+        greatest: angle(-1, 0),
+    };
+    let report = report_text(rt.alloc(), 15, 24, Some(found))?;
+    assert_eq!(rt;
+        report.as_slice(),
+        b"nodes 15\ntetrahedra 24\nleast +1/2 tetrahedron 10 edge 3 9\ngreatest -1/2 tetrahedron 0 edge 3 9\n".as_slice()
+    );
+    let empty = report_text(rt.alloc(), 0, 0, None)?;
+    assert_eq!(rt;
+        empty.as_slice(),
+        b"nodes 0\ntetrahedra 0\nno tetrahedra\n".as_slice()
+    );
     Ok(())
 }
 

@@ -32,7 +32,7 @@ use Rattle.std.proofs.lemmas.List.{length-map}
 use Rattle.lattice_laws.proofs.Booleans.{both_true, implied, not_true}
 use Rattle.lattice_laws.proofs.Lists.{any_map, any_filter, pick, place_where}
 
-abbrev in_slots : Corner → Bool
+abbrev pub in_slots : Corner → Bool
 in_slots (Whole a) = nat_lt a 4
 in_slots (Cut a b) = nat_lt a b && nat_lt b 4
 
@@ -68,13 +68,13 @@ eighth : (key m n : ℕ) → n < 8 → key ≡ 8 * m + n → key / 8 ≡ m
 eighth key m n lt e = omega arith
 
 module _ (d : Dims) (ss : List State) (tet : List Vertex) (t : IsLatticeTet d tet) (key : ℕ) where
-  signs : List Sign
+  pub signs : List Sign
   signs = map (λ n. sign_of_state (state_at ss n)) (map (id d) tet)
 
   in_four : (a : ℕ) → a < 4 → a < length tet
   in_four a h = let e = t.four in omega arith
 
-  id_slot : (a : ℕ) → a < 4 → slice_index (map (id d) tet) a ≡ id d (slot tet a)
+  pub id_slot : (a : ℕ) → a < 4 → slice_index (map (id d) tet) a ≡ id d (slot tet a)
   id_slot a h = get_or-map (id d) tet a (vertex 0 0 0) 0 (in_four a h)
 
   sign_slot : (a : ℕ) → a < 4 → sign_at signs a ≡ sign d ss (slot tet a)
@@ -125,15 +125,15 @@ module _ (d : Dims) (ss : List State) (tet : List Vertex) (t : IsLatticeTet d te
       ((λ i. are_opposite (sym (sign_slot a ha) i) (sym (sign_slot b hb) i)) ∙ k)
 
   -- a kept corner with this key
-  record KeptCorner : Type 0 where
-    corner : Corner
-    slots : in_slots corner ≡ true
-    some_plus : has_plus signs ≡ true
-    is_there : is_kept signs corner ≡ true
-    key_is : corner_key tet (map (id d) tet) corner ≡ key
+  pub record KeptCorner : Type 0 where
+    pub corner : Corner
+    pub slots : in_slots corner ≡ true
+    pub some_plus : has_plus signs ≡ true
+    pub is_there : is_kept signs corner ≡ true
+    pub key_is : corner_key tet (map (id d) tet) corner ≡ key
 
   -- a key that occurs in a lattice tetrahedron's pieces is a kept corner's
-  kept_corner : occurs (tet_pieces d ss tet) key ≡ true → KeptCorner
+  pub kept_corner : occurs (tet_pieces d ss tet) key ≡ true → KeptCorner
   unfolding signs tet_pieces kept
   kept_corner h =
       let len : length signs ≡ 4 = length-map (map (id d) tet) (λ n. sign_of_state (state_at ss n)) ∙ (length-map tet (id d) ∙ t.four) in

@@ -38,7 +38,7 @@ plus_from_test Zero h = cc
 plus_from_test Minus h = cc
 
 -- a Plus vertex is no padding
-plus_is_inner : (d : Dims) (ss : List State) → ArePadded d ss → (v : Vertex) → InDomain d v → is_plus (sign d ss v) ≡ true → IsInner d v
+pub plus_is_inner : (d : Dims) (ss : List State) → ArePadded d ss → (v : Vertex) → InDomain d v → is_plus (sign d ss v) ≡ true → IsInner d v
 plus_is_inner d ss padded v k p =
     let b = vertex_at-id d v k in
     let e = padded.inner (id d v) (subst (λ n. id d v < n) (sym padded.whole) b.0) (plus_from_test (sign d ss v) p) in

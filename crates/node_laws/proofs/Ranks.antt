@@ -1,5 +1,5 @@
 -- The number of a node is a rank, and counts of parts add up to ranks.
-use Rattle.std.proofs.Common.{[], ◌-◌, ◌≤◌, ◌≡◌, ◌≢◌, ℕ, zero, suc, ◌+◌, ◌<◌, Bool, true, false, not, cond, ◌==◌, List, ◌∷◌, ◌++◌, length, refl, sym, ap, ◌∙◌, arith, length-append, add-zero, zero-add}
+use Rattle.std.proofs.Common.{[], ◌≡◌, ◌≢◌, ℕ, zero, suc, ◌+◌, ◌<◌, Bool, true, false, not, cond, ◌==◌, List, ◌∷◌, ◌++◌, length, refl, sym, ap, ◌∙◌, arith, length-append, add-zero, zero-add}
 use Rattle.std.specs.List.{range_with_len, position_or_len, filter}
 use Rattle.std.proofs.lemmas.Bool.Decides.{nat_tests}
 use Rattle.std.proofs.lemmas.List.Elements.{filter-append}
@@ -67,13 +67,3 @@ one p key b e = at (p key) b e
     at false false h = refl
     at true false h = cc
     at false true h = cc
-
--- one more key, as at a step of a loop
-pub count_more : (p : ℕ → Bool) (first key : ℕ) (b : Bool) → p key ≡ b → first ≤ key → length (filter p (range_with_len first (key + 1 - first))) ≡ length (filter p (range_with_len first (key - first))) + cond b 1 0
-count_more p first key b e le =
-    let f : key + 1 - first ≡ (key - first) + 1 = omega arith in
-    let g : first + (key - first) ≡ key = omega arith in
-    ap (λ n. length (filter p (range_with_len first n))) f
-    ∙ (count_split p first (key - first) 1
-    ∙ (ap (λ n. length (filter p (range_with_len first (key - first))) + length (filter p (range_with_len n 1))) g
-    ∙ ap (λ n. length (filter p (range_with_len first (key - first))) + n) (one p key b e)))

@@ -111,6 +111,3 @@ pub fn count_signs(field: &Field) -> Signs
     }
     signs
 }
-
-#[cfg(test)]
-mod tests;

@@ -108,10 +108,63 @@ impl Field {
         requires j_high { j ≤ self.now.dims.ny }
         requires k_high { k ≤ self.now.dims.nz }
         ensures value { result ≡ corner_difference self.now i j k }
+        ensures small { unsigned_abs result < 2 ^ 34 }
+        ensures sizes { IsDims self.now.dims }
     {
         let Dims { nx, ny, .. } = self.dims;
         let row = (k as usize - 1) * ny as usize + (j as usize - 1);
         number(&self.differences, row * nx as usize + (i as usize - 1))
+    }
+
+    #[inline(always)]
+    #[tactic(auto, using(crate::proofs::Sizes::ny_within))]
+    fn edge_inside(&self, i: u32, j: u32, k: u32) -> i64
+        requires i_low { 1 ≤ i }
+        requires j_low { 1 ≤ j }
+        requires k_low { 1 ≤ k }
+        requires i_high { i ≤ self.now.dims.nx }
+        requires j_high { j < self.now.dims.ny }
+        requires k_high { k ≤ self.now.dims.nz }
+        ensures value { result ≡ edge_sum self.now i j k }
+        ensures small { unsigned_abs result < 2 ^ 35 }
+        ensures sizes { IsDims self.now.dims }
+    {
+        let near = self.difference_inside(i, j, k);
+        near + self.difference_inside(i, j + 1, k)
+    }
+
+    #[inline(always)]
+    #[tactic(auto, using(crate::proofs::Sizes::nz_within))]
+    fn side_inside(&self, i: u32, j: u32, k: u32) -> i64
+        requires i_low { 1 ≤ i }
+        requires j_low { 1 ≤ j }
+        requires k_low { 1 ≤ k }
+        requires i_high { i ≤ self.now.dims.nx }
+        requires j_high { j < self.now.dims.ny }
+        requires k_high { k < self.now.dims.nz }
+        ensures value { result ≡ side_sum self.now i j k }
+        ensures small { unsigned_abs result < 2 ^ 36 }
+        ensures sizes { IsDims self.now.dims }
+    {
+        let near = self.edge_inside(i, j, k);
+        near + self.edge_inside(i, j, k + 1)
+    }
+
+    /// The same as `cube`, where the eight corners are of the image. It is eight reads.
+    #[inline(always)]
+    #[tactic(auto, using(crate::proofs::Sizes::nx_within, crate::proofs::ValuesAt::cube_by_sides))]
+    pub fn cube_inside(&self, i: u32, j: u32, k: u32) -> i64
+        requires i_low { 1 ≤ i }
+        requires j_low { 1 ≤ j }
+        requires k_low { 1 ≤ k }
+        requires i_high { i < self.now.dims.nx }
+        requires j_high { j < self.now.dims.ny }
+        requires k_high { k < self.now.dims.nz }
+        ensures value { result ≡ cube_sum self.now i j k }
+        ensures small { unsigned_abs result < 2 ^ 37 }
+    {
+        let near = self.side_inside(i, j, k);
+        near + self.side_inside(i + 1, j, k)
     }
 
     #[inline]

@@ -16,7 +16,7 @@ use Rattle.slab_core.specs.Steps.{slab_count, slabs_done, reach_words}
 use Rattle.slab_core.specs.Sound.{all_drawn, IsSoundWorker, IsSound}
 use Rattle.slab_core.specs.Results.{all_made, all_done, FewMade, AllGone, IsDone}
 
-sums_rise : {X : Type 0} (f g : X → ℕ) (xs : List X) → All (λ x. f x ≤ g x) xs → sum_by f xs ≤ sum_by g xs
+pub sums_rise : {X : Type 0} (f g : X → ℕ) (xs : List X) → All (λ x. f x ≤ g x) xs → sum_by f xs ≤ sum_by g xs
 sums_rise f g [] all = omega arith
 sums_rise f g (x ∷ xs) all =
     let a = sum_by-cons f x xs in
@@ -25,7 +25,7 @@ sums_rise f g (x ∷ xs) all =
     let t = sums_rise f g xs (All-tail (λ x. f x ≤ g x) x xs all) in
     omega arith
 
-sums_same : {X : Type 0} (f g : X → ℕ) (xs : List X) → All (λ x. f x ≡ g x) xs → sum_by f xs ≡ sum_by g xs
+pub sums_same : {X : Type 0} (f g : X → ℕ) (xs : List X) → All (λ x. f x ≡ g x) xs → sum_by f xs ≡ sum_by g xs
 sums_same f g [] all = refl
 sums_same f g (x ∷ xs) all =
     let a = sum_by-cons f x xs in
@@ -35,11 +35,11 @@ sums_same f g (x ∷ xs) all =
     omega arith
 
 -- how many layers the reach of slab j has
-abbrev reach_len : CoreState → ℕ → ℕ
+abbrev pub reach_len : CoreState → ℕ → ℕ
 reach_len s j = reach_to s.dims s.slab j - reach_from s.slab j
 
 -- different layers, each in the reach of one of these slabs
-made_few : (s : CoreState) (drawn made : List ℕ) → ((x : ℕ) → times x made ≤ 1) → ((h : ℕ) → has h made ≡ true → list_any (λ j. is_in_reach s.dims s.slab j h) drawn ≡ true) → length made ≤ sum_by (reach_len s) drawn
+pub made_few : (s : CoreState) (drawn made : List ℕ) → ((x : ℕ) → times x made ≤ 1) → ((h : ℕ) → has h made ≡ true → list_any (λ j. is_in_reach s.dims s.slab j h) drawn ≡ true) → length made ≤ sum_by (reach_len s) drawn
 made_few s [] [] once reached = omega arith
 made_few s [] (x ∷ xs) once reached = absurd (true≢false (sym (reached x (first x xs))))
   where
@@ -97,7 +97,7 @@ sum_below_rises g m n le = subst (λ (k : ℕ). sum_below g m ≤ sum_below g k)
     more zero = let e : 0 + m ≡ m = omega arith in subst (λ (i : ℕ). sum_below g m ≤ sum_below g i) (sym e) (omega arith)
     more (suc k) = let e : suc k + m ≡ suc (k + m) = omega arith in let h = more k in subst (λ (i : ℕ). sum_below g m ≤ sum_below g i) (sym e) (let r : sum_below g m ≤ sum_below g (k + m) + g (k + m) = omega arith in r)
 
-all_reaches : (s : CoreState) (n : ℕ) → 1 ≤ s.slab → sum_below (reach_len s) n ≤ layers s.dims + 4 * (n - 1)
+pub all_reaches : (s : CoreState) (n : ℕ) → 1 ≤ s.slab → sum_below (reach_len s) n ≤ layers s.dims + 4 * (n - 1)
 all_reaches s zero some = omega arith
 all_reaches s (suc n) some = let b = reaches_bound s n some in omega arith
 

@@ -1,3 +1,1 @@
-pub mod Parts
-pub use Rattle.definitions.specs.Mesh
-pub use Rattle.place_laws.specs.Inside
+pub mod Surveyed

@@ -1,14 +1,14 @@
-//! The mesh of a field on one thread: the places of its nodes and its tetrahedra, as plain lists.
+//! What a user of workers calls: a plan says how many workers there are and how many double layers a slab has; a
+//! survey finds the states of all vertices; then the lines of the mesh are made round by round, some slabs at a time.
 #![tactic(auto)]
 
-mod build;
-mod mesh;
-mod order;
-mod places;
-mod tetrahedra;
+mod rounds;
+mod source;
 
-pub use build::build_mesh;
-pub use mesh::Mesh;
-
-#[cfg(test)]
-mod tests;
+pub use command_line::Plan;
+pub use mesh_lists::{Mesh, build_mesh, extremes};
+pub use rounds::{emit_nodes, emit_tets};
+pub use slab_emit::{Part, Source};
+pub use slab_survey::{Worker, survey_slab};
+pub use source::source_of;
+pub use survey::{Survey, Trace, survey};

@@ -142,6 +142,7 @@ fn are_inside(dims: Dims, lines: Lines) -> bool
 }
 
 /// Whether the corners with the number `i` in the lines have the sign.
+#[inline(always)]
 fn is_column(field: &Field, lines: Lines, sign: Sign, i: u32) -> bool
     requires j { lines.j_high < 2 ^ 31 }
     requires k { lines.k_high < 2 ^ 31 }
@@ -163,6 +164,7 @@ pub struct Run {
 }
 
 /// The run with the corners of number `i` behind it; those before `i` are looked at.
+#[inline(always)]
 fn with_column(field: &Field, lines: Lines, run: Run, i: u32) -> Run
     requires j { lines.j_high < 2 ^ 31 }
     requires k { lines.k_high < 2 ^ 31 }
@@ -181,6 +183,7 @@ fn with_column(field: &Field, lines: Lines, run: Run, i: u32) -> Run
 }
 
 /// The same, if there are corners of number `i`.
+#[inline(always)]
 pub fn with_next(field: &Field, lines: Lines, run: Run, i: u32) -> Run
     requires j { lines.j_high < 2 ^ 31 }
     requires k { lines.k_high < 2 ^ 31 }

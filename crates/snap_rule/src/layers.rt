@@ -102,6 +102,28 @@ pub fn write_layer(field: &Field, shares: Shares, h: u32, start: usize, out: &mu
     at
 }
 
+/// Writes the codes of row `j` of a layer, in order, at the head of `out`, and has the ledger count
+/// its vertices.
+#[tactic(auto, using(lattice_counts::proofs::Sizes::nx_small))]
+pub fn row_states<L: Ledger>(
+    field: &Field,
+    shares: Shares,
+    h: u32,
+    j: u32,
+    ledger: &mut L,
+    out: &mut [u64],
+)
+    requires layer { h < layers field.now.dims }
+    requires row { j < row_len field.now.dims.ny h }
+    requires len { row_len field.now.dims.nx h ≤ length out.old }
+    requires room { L.count ledger.old + row_len field.now.dims.nx h < 2 ^ 64 }
+    ensures codes { (i : ℕ) → i < row_len field.now.dims.nx h → slice_index out.new i ≡ code (state_of field.now shares (vertex h (j * 2 + h % 2) (i * 2 + h % 2))) }
+    ensures count { L.count ledger.new ≡ L.count ledger.old + row_len field.now.dims.nx h }
+{
+    ledger.add(layer_size(field, h).row as u64);
+    write_row(field, shares, h, j, 0, out);
+}
+
 /// Writes the codes of a layer, in order, and has the ledger count its vertices.
 pub fn layer_states<L: Ledger>(
     field: &Field,

@@ -11,10 +11,7 @@ mod states;
 mod values_around;
 mod vertex;
 
-pub use layers::layer_states;
+pub use layers::{layer_states, row_states};
 pub use shares::Shares;
 pub use states::{States, all_states};
 pub use vertex::vertex_state;
-
-#[cfg(test)]
-mod tests;

@@ -1,13 +1,13 @@
-ghost use Rattle.std.specs.Prelude.{◌≡◌, ◌+◌, ◌^◌, ◌<◌, All, IfOk, IsTrue, OnErr, OnOk, length, map, slice_index};
+ghost use Rattle.std.specs.Prelude.{◌≡◌, ◌+◌, ◌^◌, ◌<◌, true, All, IfOk, IsTrue, OnErr, OnOk, length, map, slice_index};
 ghost use Rattle.definitions.specs.Lattice.{IsDims, InDomain, id, vertices};
 ghost use Rattle.definitions.specs.Mesh.{state_at};
-ghost use Rattle.definitions.specs.States.{IsState, code, state_of, states};
+ghost use Rattle.definitions.specs.States.{IsState, code, sign_of_state, state_of, states};
 ghost use Rattle.snap_rule.specs.Codes.{is_code, state_of_code};
 
 use crate::Shares;
 use crate::layers::write_all;
 use bcc_lattice::{id, vertex_count};
-use definitions::State;
+use definitions::{Sign, State};
 use samples::Field;
 use st_base::{Dims, Ledger, NoMemory, Vertex};
 use std::alloc::Global;
@@ -73,6 +73,50 @@ impl States {
         ensures is_state { IsState result }
     {
         decode(word(&self.codes, id(self.dims, v) as usize))
+    }
+
+    /// The sign of the vertex of an id.
+    #[inline]
+    pub fn sign(&self, id: u32) -> Sign
+        requires { id < length (vertices self.now.dims) }
+        ensures { result ≡ sign_of_state (state_at self.now.states id) }
+    {
+        sign_of_code(word(&self.codes, id as usize))
+    }
+
+    /// Whether the vertex of an id has a sign.
+    #[inline]
+    pub fn has_sign(&self, id: u32, sign: Sign) -> bool
+        requires { id < length (vertices self.now.dims) }
+        ensures { result ≡ true → sign_of_state (state_at self.now.states id) ≡ sign }
+    {
+        has_sign(word(&self.codes, id as usize), sign)
+    }
+}
+
+/// The sign of the state of a word that is a code.
+#[inline]
+fn sign_of_code(word: u64) -> Sign
+    requires { IsTrue (is_code word) }
+    ensures { result ≡ sign_of_state (state_of_code word) }
+{
+    match word {
+        1 => Sign::Minus,
+        3 => Sign::Plus,
+        _ => Sign::Zero,
+    }
+}
+
+/// Whether the state of a word that is a code has a sign.
+#[inline]
+fn has_sign(word: u64, sign: Sign) -> bool
+    requires { IsTrue (is_code word) }
+    ensures { result ≡ true → sign_of_state (state_of_code word) ≡ sign }
+{
+    match sign {
+        Sign::Minus => word == 1,
+        Sign::Plus => word == 3,
+        Sign::Zero => word != 1 && word != 3,
     }
 }
 

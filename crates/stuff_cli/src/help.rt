@@ -5,9 +5,13 @@ stuff: tetrahedral meshes of volumes, by isosurface stuffing
   mesh IN OUT level=L [below=yes] [step=S] [long=A] [short=B]
        [workers=W] [slab=T]
               fill the region above the level with tetrahedra: write OUT.node
-              and OUT.ele (TetGen), and the numbers of nodes and tetrahedra
+              and OUT.ele (TetGen), and print the numbers of nodes and
+              tetrahedra and the least and the greatest dihedral angle
   count IN level=L [below=yes] [step=S]
               count the lattice vertices above, on and below the level
+  demo size=N seed=S [workers=W] [slab=T]
+              do both for a test volume of N x N x N samples, N from 1 to 128,
+              at level 199.5, without files
   --help      print this
   --version   print the version
 
@@ -23,8 +27,14 @@ compressed, and its data in the same file.
             a vertex is moved onto a cut of the surface that is at most A or
             B of 4096 parts of a long or short edge away: A up to 1023, B up
             to 2047 (default 1023 and 1687)
+  size=N, seed=S
+            N from 1 to 128, S from 0 to 18446744073709551615 (no default)
   workers=W, slab=T
-            1 to 64 each (default 4); read, and without effect so far
+            W workers make the mesh, in slabs of 2 T layers of the lattice:
+            1 to 64 each (default 4); what is written does not depend on
+            them. Take W as the number of cores that are free. Thin slabs
+            spread a flat volume over more workers and take less memory;
+            thick ones repeat less work at their borders
 
 Status:
   0  done

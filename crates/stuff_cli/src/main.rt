@@ -3,26 +3,16 @@
 
 ghost use Rattle.std.specs.Prelude.{◌≡◌, IsSome, length};
 
-mod files;
 mod help;
-mod input;
-mod mesh;
-mod run;
-mod signs;
-mod trouble;
 
 use crate::help::{HELP, VERSION};
 use desk_std::StdDesk;
-pub use files::write_report;
-pub use input::{read_field, read_input};
-pub use run::stuff;
-pub use signs::sign_text;
 use st_base::{NoMemory, OpenGate, Port, Status, Words};
 use std::alloc::Global;
 use std::env;
 use std::process::ExitCode;
 use std::rt::Env;
-pub use trouble::tell;
+use stuff::stuff;
 
 // The words behind the program's name.
 fn words_of(rt: &(impl Env + AllocGlobal), alloc: Global) -> Result<Words, NoMemory> {
@@ -74,9 +64,6 @@ fn main(rt: HostRuntime) -> ExitCode {
         return ExitCode::from(Status::NoMemory.code());
     };
     let mut desk = StdDesk::new(own, rt.stdout(), rt.stderr());
-    let status = stuff(&rt, alloc, &words, &mut desk, &OpenGate);
-    ExitCode::from(status.code())
+    let outcome = stuff(&rt, alloc, &words, &mut desk, &OpenGate);
+    ExitCode::from(outcome.status.code())
 }
-
-#[cfg(test)]
-mod tests;

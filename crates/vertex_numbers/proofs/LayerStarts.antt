@@ -1,15 +1,15 @@
 -- The ids and the nodes below a layer.
-use Rattle.std.proofs.Common.{◌≡◌, ℕ, ◌+◌, ◌-◌, ◌<◌, ◌≤◌, List, length, take, arith, sym, ap, subst, ◌∙◌}
-use Rattle.std.specs.Prelude.{sum_by}
+use Rattle.std.proofs.Common.{◌≡◌, ℕ, ◌+◌, ◌-◌, ◌*◌, ◌/◌, ◌%◌, ◌<◌, ◌≤◌, List, length, take, arith, refl, sym, ap, subst, ◌∙◌}
+use Rattle.std.specs.Prelude.{filter, sum_by, IfOk, Result, Ok, Err}
 use Rattle.std.specs.List.{range_with_len}
 use Rattle.std.proofs.lemmas.List.Sums.{sum-map}
 use Rattle.std.proofs.lemmas.List.FromFn.{length-map-range_with_len, take-map-range_with_len}
 use Rattle.definitions.specs.declared.Dims.{Dims}
 use Rattle.definitions.specs.declared.State.{State}
-use Rattle.definitions.specs.Lattice.{layers}
+use Rattle.definitions.specs.Lattice.{layers, vertices}
 use Rattle.definitions.specs.Layout.{layer_len, layer_start}
-use Rattle.definitions.specs.Mesh.{layer_node_keys}
-use Rattle.lattice_counts.specs.Counts.{below_layer}
+use Rattle.definitions.specs.Mesh.{all_pieces, layer_node_keys, node_keys, occurs}
+use Rattle.lattice_counts.specs.Counts.{below_layer, even_len, odd_len}
 use Rattle.lattice_counts.proofs.Ranks.{below_rises, start}
 use Rattle.node_laws.proofs.Layers.{counts_below, next_start}
 use Rattle.vertex_numbers.specs.Counts.{count_of_layer, layer_counts}
@@ -40,3 +40,20 @@ module _ (d : Dims) (ss : List State) where
       ∙ sum_by-map (λ c. c.nodes) (count_of_layer d ss) (range_with_len 0 h)
       ∙ sym (sum-map (λ g. length (layer_node_keys d ss g)) (range_with_len 0 h))
       ∙ sym (counts_below d ss h le)
+
+  -- no node stands below the first layer, and all below the end
+  pub no_nodes_below : nodes_before d ss (layer_start d 0) ≡ 0
+  unfolding nodes_before
+  no_nodes_below = ap (λ n. length (filter (occurs (all_pieces d ss)) (range_with_len 0 (8 * n)))) (start d 0 (omega arith) ∙ none (even_len d) (odd_len d))
+    where
+      none : (e o : ℕ) → 0 / 2 * (e + o) + 0 % 2 * e ≡ 0
+      none e o = omega arith
+
+  pub all_nodes : nodes_before d ss (length (vertices d)) ≡ length (node_keys d ss)
+  unfolding nodes_before node_keys
+  all_nodes = refl
+
+-- what follows where there is a value
+pub if_ok : {T E : Type 0} (r : Result T E) (P Q : T → Type 0) → IfOk r P → ((x : T) → P x → Q x) → IfOk r Q
+if_ok (Ok x) P Q h f = f x h
+if_ok (Err e) P Q h f = tt

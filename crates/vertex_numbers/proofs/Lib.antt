@@ -9,3 +9,7 @@ pub mod LayersTold
 pub mod NumberedIds
 pub mod LayerStarts
 pub mod NoPlus
+pub mod LaterIds
+pub mod OneSign
+pub mod Upwards
+pub mod Columns

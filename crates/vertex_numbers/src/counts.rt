@@ -1,15 +1,18 @@
-ghost use Rattle.std.specs.Prelude.{◌≡◌, ◌≤◌, ◌<◌, ◌+◌, ◌*◌, ℕ, length, List, sum_by};
+ghost use Rattle.std.specs.Prelude.{◌≡◌, ◌≤◌, ◌<◌, ◌+◌, ◌*◌, ℕ, length, IfSome, List, sum_by};
 ghost use Rattle.definitions.specs.declared.State.{State};
-ghost use Rattle.definitions.specs.Lattice.{InDomain, IsDims, layers};
+ghost use Rattle.definitions.specs.Lattice.{InDomain, IsDims, layers, vertex};
 ghost use Rattle.definitions.specs.Mesh.{ArePadded, layer_node_keys, layer_pieces};
 ghost use Rattle.lattice_counts.specs.Counts.{row_len};
+ghost use Rattle.vertex_numbers.specs.Alike.{AreAlike, IsColumn};
 ghost use Rattle.vertex_numbers.specs.Counts.{nodes_at_id, pieces_at_id, row_ids, vertex_nodes, vertex_pieces};
 ghost use Rattle.vertex_numbers.specs.Sources.{Agrees, KnowsAround};
 
 use crate::StateSource;
+use crate::alike::follow;
 use crate::around::signs_around;
 use crate::nodes::nodes_around;
 use crate::pieces::pieces_up;
+use definitions::Sign;
 use st_base::{Dims, Vertex};
 
 /// The numbers of nodes and tetrahedra of the mesh that belong to a layer: the nodes at its vertices and
@@ -28,10 +31,9 @@ struct Share {
     tets: u64,
 }
 
-/// What a vertex adds.
-#[inline(always)]
+/// What a vertex adds, by the signs at its neighbours.
 #[tactic(auto, unfolding(crate::specs::Counts::vertex_nodes, crate::specs::Counts::vertex_pieces))]
-fn share_of<S: StateSource>(from: &mut S, dims: Dims, v: Vertex) -> Share
+fn share_by_signs<S: StateSource>(from: &mut S, dims: Dims, v: Vertex) -> Share
     requires dims { IsDims dims }
     requires sizes { S.sizes from.old ≡ dims }
     requires domain { InDomain dims v }
@@ -46,6 +48,57 @@ fn share_of<S: StateSource>(from: &mut S, dims: Dims, v: Vertex) -> Share
     let tets = pieces_up(&around) as u64;
     let nodes = nodes_around(from, dims, v, &around).count_ones();
     Share { nodes, tets }
+}
+
+/// What a vertex adds, at once where it and its neighbours upwards are known to be all Minus or all Plus.
+#[inline(always)]
+fn share_of<S: StateSource>(from: &mut S, dims: Dims, v: Vertex, alike: Option<Sign>) -> Share
+    requires dims { IsDims dims }
+    requires sizes { S.sizes from.old ≡ dims }
+    requires domain { InDomain dims v }
+    requires known { KnowsAround dims (S.knows from.old) v.h }
+    requires alike { IfSome alike (AreAlike dims (S.told from.old) v) }
+    ensures nodes { result.nodes ≡ vertex_nodes dims (S.told from.old) v }
+    ensures tets { result.tets ≡ vertex_pieces dims (S.told from.old) v }
+    ensures few_nodes { result.nodes ≤ 8 }
+    ensures few_tets { result.tets ≤ 18 }
+    ensures same { S.unchanged from.old from.new }
+{
+    match alike {
+        Some(Sign::Minus) => Share { nodes: 0, tets: 0 },
+        Some(Sign::Plus) => Share { nodes: 1, tets: 6 },
+        _ => share_by_signs(from, dims, v),
+    }
+}
+
+/// What a vertex adds, and the sign of the next column along its row, if it has one.
+#[derive(Clone, Copy)]
+struct Counted {
+    share: Share,
+    next: Option<Sign>,
+}
+
+/// What a vertex adds, where `here` is the sign of its column, if it is known to have one.
+#[inline(always)]
+fn count_next<S: StateSource>(from: &mut S, dims: Dims, v: Vertex, here: Option<Sign>) -> Counted
+    requires dims { IsDims dims }
+    requires sizes { S.sizes from.old ≡ dims }
+    requires domain { InDomain dims v }
+    requires known { KnowsAround dims (S.knows from.old) v.h }
+    requires here { IfSome here (IsColumn dims (S.told from.old) v) }
+    ensures nodes { result.share.nodes ≡ vertex_nodes dims (S.told from.old) v }
+    ensures tets { result.share.tets ≡ vertex_pieces dims (S.told from.old) v }
+    ensures few_nodes { result.share.nodes ≤ 8 }
+    ensures few_tets { result.share.tets ≤ 18 }
+    ensures next { IfSome result.next (IsColumn dims (S.told from.old) (vertex v.h v.y (v.x + 2))) }
+    ensures same { S.unchanged from.old from.new }
+{
+    let seen = follow(from, dims, v, here);
+    let share = share_of(from, dims, v, seen.alike);
+    Counted {
+        share,
+        next: seen.next,
+    }
 }
 
 /// What row `j` of layer `h` adds.
@@ -63,15 +116,17 @@ fn share_of_row<S: StateSource>(from: &mut S, dims: Dims, h: u32, j: u32) -> Sha
     ensures same { S.unchanged from.old from.new }
 {
     let mut share = Share { nodes: 0, tets: 0 };
+    let mut here: Option<Sign> = None;
     for i in 0..dims.nx + 2 - h % 2 {
         let v = Vertex {
             h,
             y: j * 2 + h % 2,
             x: i * 2 + h % 2,
         };
-        let more = share_of(from, dims, v);
-        share.nodes += more.nodes;
-        share.tets += more.tets;
+        let more = count_next(from, dims, v, here);
+        here = more.next;
+        share.nodes += more.share.nodes;
+        share.tets += more.share.tets;
     }
     share
 }

@@ -1,8 +1,10 @@
 //! Which nodes occur in the mesh, their numbers, and how many nodes and tetrahedra each layer has.
 #![tactic(auto)]
 
+mod alike;
 mod around;
 mod counts;
+mod later;
 mod nodes;
 mod offsets;
 mod pieces;
@@ -10,10 +12,8 @@ mod source;
 mod starts;
 
 pub use counts::{LayerCount, layer_count};
+pub use later::{Later, have_sign, later_ids};
 pub use nodes::{nodes_at, used};
 pub use offsets::Offsets;
 pub use source::StateSource;
-pub use starts::Starts;
-
-#[cfg(test)]
-mod tests;
+pub use starts::{Numbered, Starts};

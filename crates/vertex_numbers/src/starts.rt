@@ -1,4 +1,5 @@
-ghost use Rattle.std.specs.Prelude.{◌≡◌, ◌≤◌, ◌<◌, ◌+◌, ℕ, true, IfOk, OnOk};
+ghost use Rattle.std.specs.Prelude.{◌≡◌, ◌≤◌, ◌<◌, ◌+◌, ℕ, ◌*◌, true, length, IfOk, OnOk};
+ghost use Rattle.std.specs.List.{list_any, range_with_len};
 ghost use Rattle.definitions.specs.Lattice.{InDomain, IsDims, id, layers};
 ghost use Rattle.definitions.specs.Layout.{layer_start};
 ghost use Rattle.definitions.specs.Mesh.{ArePadded, all_pieces, node_keys, number_of, occurs};
@@ -6,8 +7,9 @@ ghost use Rattle.lattice_counts.specs.Counts.{row_len};
 ghost use Rattle.vertex_numbers.specs.Counts.{layer_counts, row_start};
 ghost use Rattle.vertex_numbers.specs.Numbering.{Holds, IsDraft, IsEmpty, mesh_bits, nodes_before, number_in, used_in};
 
-use crate::{Offsets, nodes_at};
-use bcc_lattice::Layout;
+use crate::{Offsets, have_sign, later_ids, nodes_at};
+use bcc_lattice::{Layout, id as vertex_id};
+use definitions::Sign;
 use snap_rule::States;
 use st_base::{NoMemory, Vertex};
 use std::alloc::Global;
@@ -42,8 +44,14 @@ pub struct Draft {
     pub count: u32,
 }
 
+/// Starts of the ids of some layers, and how many nodes stand before the next layer.
+#[derive(Drop)]
+pub struct Numbered {
+    pub starts: Starts,
+    pub count: u32,
+}
+
 /// The bits of the nodes at a vertex.
-#[inline(always)]
 fn bits_at(states: &States, v: Vertex) -> u8
     requires dims { IsDims states.now.dims }
     requires padded { ArePadded states.now.dims states.now.states }
@@ -52,6 +60,28 @@ fn bits_at(states: &States, v: Vertex) -> u8
 {
     let mut source = states;
     nodes_at(&mut source, states.dims(), v)
+}
+
+/// The same, at once where the vertex and its neighbours upwards have one sign.
+#[inline(always)]
+fn bits_of(states: &States, v: Vertex) -> u8
+    requires dims { IsDims states.now.dims }
+    requires padded { ArePadded states.now.dims states.now.states }
+    requires domain { InDomain states.now.dims v }
+    ensures { result ≡ mesh_bits states.now.dims states.now.states (id states.now.dims v) }
+{
+    let dims = states.dims();
+    let Some(later) = later_ids(dims, v) else {
+        return bits_at(states, v);
+    };
+    let own = vertex_id(dims, v);
+    if have_sign(states, own, &later, Sign::Minus) {
+        0
+    } else if have_sign(states, own, &later, Sign::Plus) {
+        1
+    } else {
+        bits_at(states, v)
+    }
 }
 
 /// The starts of no ids yet, from an id on before which so many nodes stand.
@@ -90,7 +120,7 @@ fn push_row(states: &States, h: u32, j: u32, draft: &mut Draft) -> Result<(), No
             y: j * 2 + h % 2,
             x: i * 2 + h % 2,
         };
-        let bits = bits_at(states, v);
+        let bits = bits_of(states, v);
         if draft.before.push(draft.count).is_err() || draft.nodes.push(bits).is_err() {
             return Err(NoMemory);
         }
@@ -146,6 +176,45 @@ fn drafted(
     Ok(draft)
 }
 
+/// The nodes at the vertices of the layers from `from` on and before `to`, where `count` nodes stand before the
+/// first of them, and how many stand before the vertex after the last.
+fn starts_from(
+    alloc: Global,
+    states: &States,
+    from: u32,
+    to: u32,
+    count: u32,
+) -> Result<Numbered, NoMemory>
+    requires dims { IsDims states.now.dims }
+    requires padded { ArePadded states.now.dims states.now.states }
+    requires some { from < to }
+    requires within { to ≤ layers states.now.dims }
+    requires count { count ≡ nodes_before states.now.dims states.now.states (layer_start states.now.dims from) }
+    ensures first { IfOk result (λ n. n.starts.first ≡ layer_start states.now.dims from) }
+    ensures end { IfOk result (λ n. n.starts.first + n.starts.len ≡ layer_start states.now.dims to) }
+    ensures used { IfOk result (λ n. (key : ℕ) → Holds n.starts key
+        → used_in n.starts key ≡ occurs (all_pieces states.now.dims states.now.states) key) }
+    ensures number { IfOk result (λ n. (key : ℕ) → Holds n.starts key
+        → occurs (all_pieces states.now.dims states.now.states) key ≡ true
+        → number_in n.starts key ≡ number_of (node_keys states.now.dims states.now.states) key) }
+    ensures count { IfOk result (λ n. n.count ≡ nodes_before states.now.dims states.now.states (layer_start states.now.dims to)) }
+{
+    let Draft {
+        first,
+        before,
+        nodes,
+        count,
+    } = drafted(alloc, states, from, to, count)?;
+    Ok(Numbered {
+        starts: Starts {
+            first,
+            before,
+            nodes,
+        },
+        count,
+    })
+}
+
 impl Starts {
     /// The nodes at the vertices of the layers from `from` on and before `to`.
     pub fn of_layers(
@@ -168,17 +237,26 @@ impl Starts {
             → occurs (all_pieces states.now.dims states.now.states) key ≡ true
             → number_in s key ≡ number_of (node_keys states.now.dims states.now.states) key) }
     {
-        let Draft {
-            first,
-            before,
-            nodes,
-            count: _,
-        } = drafted(alloc, states, from, to, offsets.node_start(from))?;
-        Ok(Starts {
-            first,
-            before,
-            nodes,
-        })
+        match starts_from(alloc, states, from, to, offsets.node_start(from)) {
+            Ok(numbered) => Ok(numbered.starts),
+            Err(fault) => Err(fault),
+        }
+    }
+
+    /// The nodes at all vertices, and how many there are.
+    #[tactic(auto, using(lattice_counts::proofs::Sizes::nz_small))]
+    pub fn of_all(alloc: Global, states: &States) -> Result<Numbered, NoMemory>
+        requires { ArePadded states.now.dims states.now.states }
+        ensures first { IfOk result (λ n. n.starts.first ≡ layer_start states.now.dims 0) }
+        ensures end { IfOk result (λ n. n.starts.first + n.starts.len ≡ layer_start states.now.dims (layers states.now.dims)) }
+        ensures used { IfOk result (λ n. (key : ℕ) → Holds n.starts key
+            → used_in n.starts key ≡ occurs (all_pieces states.now.dims states.now.states) key) }
+        ensures number { IfOk result (λ n. (key : ℕ) → Holds n.starts key
+            → occurs (all_pieces states.now.dims states.now.states) key ≡ true
+            → number_in n.starts key ≡ number_of (node_keys states.now.dims states.now.states) key) }
+        ensures count { IfOk result (λ n. n.count ≡ length (node_keys states.now.dims states.now.states)) }
+    {
+        starts_from(alloc, states, 0, 2 * states.dims().nz + 3, 0)
     }
 
     /// The nodes at the vertices of layer `h`.
@@ -210,6 +288,24 @@ impl Starts {
     {
         let nodes = self.nodes[(key / 8 - self.first) as usize];
         (nodes >> (key % 8)) % 2 == 1
+    }
+
+    /// Whether a vertex is a node or has a cut on one of its edges upwards.
+    pub fn has_nodes(&self, id: u32) -> bool
+        requires low { self.now.first ≤ id }
+        requires high { id < self.now.first + self.now.len }
+        ensures { result ≡ list_any (used_in self.now) (range_with_len (8 * id) 8) }
+    {
+        self.nodes[(id - self.first) as usize] != 0
+    }
+
+    /// The number of one of these vertices, if it is a node.
+    pub fn vertex_number(&self, id: u32) -> u32
+        requires low { self.now.first ≤ id }
+        requires high { id < self.now.first + self.now.len }
+        ensures { result ≡ number_in self.now (8 * id) }
+    {
+        self.before[(id - self.first) as usize]
     }
 
     /// The number of a node of one of these vertices.

@@ -1,10 +1,10 @@
-use Rattle.std.proofs.Common.{ℕ, ◌+◌, drop, sym, subst, arith}
+use Rattle.std.proofs.Common.{ℕ, ◌+◌, drop, sym, subst, arith, ◌∙◌}
 use Rattle.std.specs.Prelude.{IfSome}
 use Rattle.command_line.specs.Grammar.{Reads, IsBadPlace, IsPlan}
 use Rattle.command_words.specs.declared.command.Command.{Command}
 use Rattle.command_words.specs.Commands.{IsBadName, meaning_of, mesh_of}
 use Rattle.command_words.specs.Settings.{IsTaken, IsStop}
-use Rattle.command_words.proofs.Places.{no_verb, bad_name_place, opened, stop_place, no_level, reads_all, long_within, short_within, step_within, step_seen, plan_within, plan_seen}
+use Rattle.command_words.proofs.Places.{no_verb, bad_name_place, opened, stop_place, no_command, reads_all, long_within, short_within, size_within, step_within, step_seen, plan_within, plan_is_seen, source_seen, output_seen}
 use Rattle.command_words.proofs.read.read_words.Goals as goal
 
 pub returns-in_default-clause-place : goal.returns-in_default-clause-place
@@ -21,13 +21,13 @@ returns-in-Err-clause-place c =
     (opened c.args.words.now c.in-Some.verb c.in-Some.ensures.text (λ k lt. c.in_default-bad_name.ensures.none k (omega arith)))
     (subst (λ (n : ℕ). IsStop c.in-Some.verb c.args.words.now (n + 1) c.in-Err.place) c.file_count-files.ensures c.in-Err.ensures.place)
 
-pub returns-in_default-level-clause-place : goal.returns-in_default-level-clause-place
-returns-in_default-level-clause-place c =
+pub returns-in-None-clause-place : goal.returns-in-None-clause-place
+returns-in-None-clause-place c =
     subst (λ (n : ℕ). IsBadPlace c.args.words.now n) (sym c.len.ensures)
-    (no_level c.args.words.now c.in-Some.verb c.in-Ok.seen
+    (no_command c.args.words.now c.in-Some.verb c.in-Ok.seen
     (opened c.args.words.now c.in-Some.verb c.in-Some.ensures.text (λ k lt. c.in_default-bad_name.ensures.none k (omega arith)))
     (subst (λ (n : ℕ). IsTaken c.in-Some.verb (drop (n + 1) c.args.words.now) c.in-Ok.seen) c.file_count-files.ensures c.in-Ok.ensures.all)
-    c.in_default-level.is)
+    (sym c.command_by.ensures ∙ c.in-None.is))
 
 pub command_by-requires-clause-long : goal.command_by-requires-clause-long
 command_by-requires-clause-long c = long_within c.in-Some.verb (drop (c.file_count-files.result + 1) c.args.words.now) c.in-Ok.seen c.in-Ok.ensures.all
@@ -35,21 +35,32 @@ command_by-requires-clause-long c = long_within c.in-Some.verb (drop (c.file_cou
 pub command_by-requires-clause-short : goal.command_by-requires-clause-short
 command_by-requires-clause-short c = short_within c.in-Some.verb (drop (c.file_count-files.result + 1) c.args.words.now) c.in-Ok.seen c.in-Ok.ensures.all
 
-pub returns-clause-command : goal.returns-clause-command
-returns-clause-command c =
-    subst (λ (d : Command). Reads c.args.words.now (meaning_of d)) (sym c.command_by.ensures)
-    (reads_all c.args.words.now c.in-Some.verb c.in-Ok.seen c.in-Some-level.level
+pub returns-in-Some-command_by-clause-command : goal.returns-in-Some-command_by-clause-command
+returns-in-Some-command_by-clause-command c =
+    reads_all c.args.words.now c.in-Some.verb c.in-Ok.seen c.in-Some-command_by.command
     (opened c.args.words.now c.in-Some.verb c.in-Some.ensures.text (λ k lt. c.in_default-bad_name.ensures.none k (omega arith)))
     (subst (λ (n : ℕ). IsTaken c.in-Some.verb (drop (n + 1) c.args.words.now) c.in-Ok.seen) c.file_count-files.ensures c.in-Ok.ensures.all)
-    c.in-Some-level.is)
+    (sym c.command_by.ensures ∙ c.in-Some-command_by.is)
 
-pub returns-clause-step : goal.returns-clause-step
-returns-clause-step c =
-    let within = step_within c.in-Some.verb (drop (c.file_count-files.result + 1) c.args.words.now) c.in-Ok.seen c.in-Ok.ensures.all in
-    rw (c.command_by.ensures, step_seen c.in-Some.verb c.in-Some-level.level c.in-Ok.seen) within
+pub returns-in-Some-command_by-clause-source : goal.returns-in-Some-command_by-clause-source
+returns-in-Some-command_by-clause-source c =
+    source_seen c.in-Some.verb c.args.words.now c.in-Ok.seen c.in-Some-command_by.command
+    (opened c.args.words.now c.in-Some.verb c.in-Some.ensures.text (λ k lt. c.in_default-bad_name.ensures.none k (omega arith)))
+    (sym c.command_by.ensures ∙ c.in-Some-command_by.is)
+    (size_within c.in-Some.verb (drop (c.file_count-files.result + 1) c.args.words.now) c.in-Ok.seen c.in-Ok.ensures.all)
 
-pub returns-clause-plan : goal.returns-clause-plan
-returns-clause-plan c =
-    subst (λ (d : Command). IfSome (mesh_of d) (λ m. IsPlan m.plan)) (sym c.command_by.ensures)
-    (plan_seen c.in-Some.verb c.in-Some-level.level c.in-Ok.seen
-    (plan_within c.in-Some.verb (drop (c.file_count-files.result + 1) c.args.words.now) c.in-Ok.seen c.in-Ok.ensures.all))
+pub returns-in-Some-command_by-clause-output : goal.returns-in-Some-command_by-clause-output
+returns-in-Some-command_by-clause-output c =
+    output_seen c.in-Some.verb c.args.words.now c.in-Ok.seen c.in-Some-command_by.command
+    (opened c.args.words.now c.in-Some.verb c.in-Some.ensures.text (λ k lt. c.in_default-bad_name.ensures.none k (omega arith)))
+    (sym c.command_by.ensures ∙ c.in-Some-command_by.is)
+
+pub returns-in-Some-command_by-clause-step : goal.returns-in-Some-command_by-clause-step
+returns-in-Some-command_by-clause-step c =
+    step_seen c.in-Some.verb c.in-Ok.seen c.in-Some-command_by.command (sym c.command_by.ensures ∙ c.in-Some-command_by.is)
+    (step_within c.in-Some.verb (drop (c.file_count-files.result + 1) c.args.words.now) c.in-Ok.seen c.in-Ok.ensures.all)
+
+pub returns-in-Some-command_by-clause-plan : goal.returns-in-Some-command_by-clause-plan
+returns-in-Some-command_by-clause-plan c =
+    plan_is_seen c.in-Some.verb c.in-Ok.seen c.in-Some-command_by.command (sym c.command_by.ensures ∙ c.in-Some-command_by.is)
+    (plan_within c.in-Some.verb (drop (c.file_count-files.result + 1) c.args.words.now) c.in-Ok.seen c.in-Ok.ensures.all)

@@ -7,3 +7,6 @@ returns-then-is_word-clause-text c = first_is c.args.words.now (codes "count") (
 
 pub returns-then-is_word-2-clause-text : goal.returns-then-is_word-2-clause-text
 returns-then-is_word-2-clause-text c = first_is c.args.words.now (codes "mesh") (sym c.if-is_word-2.ensures)
+
+pub returns-then-is_word-3-clause-text : goal.returns-then-is_word-3-clause-text
+returns-then-is_word-3-clause-text c = first_is c.args.words.now (codes "demo") (sym c.if-is_word-3.ensures)

@@ -5,10 +5,10 @@ use Rattle.dihedral.proofs.SixAngles.{six_are_some}
 use Rattle.dihedral.proofs.extremes.extremes_of.Goals as goal
 
 pub unreachable-requires : goal.unreachable-requires
-unreachable-requires c = six_are_some c.args.tet c.args.number c.args.nodes (sym c.in-None.is ∙ c.found.ensures.value ∙ c.take.ensures [] (c.new-running.ensures ∙ extremes_of_none))
+unreachable-requires c = six_are_some c.args.tet c.args.number c.args.nodes (sym c.in-None.is ∙ c.found.ensures.value ∙ c.take.ensures.angles [] (c.new-running.ensures ∙ extremes_of_none))
 
 pub returns-clause-value : goal.returns-clause-value
-returns-clause-value c = sym c.in-Some.is ∙ c.found.ensures.value ∙ c.take.ensures [] (c.new-running.ensures ∙ extremes_of_none)
+returns-clause-value c = sym c.in-Some.is ∙ c.found.ensures.value ∙ c.take.ensures.angles [] (c.new-running.ensures ∙ extremes_of_none)
 
 pub returns-clause-fractions : goal.returns-clause-fractions
 returns-clause-fractions c = c.found.ensures.fractions c.in-Some.extremes c.in-Some.is

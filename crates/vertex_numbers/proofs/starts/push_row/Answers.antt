@@ -23,7 +23,7 @@ overflow_add-draft c =
     let i = column s.dims c.dims-dims.result h c.loop-i.i c.dims-dims.ensures.dims c.loop-i-test.true in
     let id = layer_start s.dims h + c.args.j * row_len s.dims.nx h + c.loop-i.i in
     let within = row_within s.dims c.requires.dims h c.requires.layer c.args.j c.loop-i.i c.requires.row i in
-    let bits = c.bits_at-bits.ensures ∙ ap (mesh_bits s.dims s.states) (row_id s.dims c.requires.dims h c.requires.layer c.args.j c.loop-i.i c.requires.row i) in
+    let bits = c.bits_of-bits.ensures ∙ ap (mesh_bits s.dims s.states) (row_id s.dims c.requires.dims h c.requires.layer c.args.j c.loop-i.i c.requires.row i) in
     fits _ _ ((λ k. c.loop-i.invariant.draft.count k + count_ones (bits k)) ∙ nodes_more s.dims s.states id)
     (before_small s.dims s.states c.requires.dims (id + 1) (next id (length (vertices s.dims)) within))
   where
@@ -38,17 +38,17 @@ loop-i-preserved c =
     let s = c.args.states.now in
     let h = c.args.h in
     let i = column s.dims c.dims-dims.result h c.loop-i.i c.dims-dims.ensures.dims c.loop-i-test.true in
-    let bits = c.bits_at-bits.ensures ∙ ap (mesh_bits s.dims s.states) (row_id s.dims c.requires.dims h c.requires.layer c.args.j c.loop-i.i c.requires.row i) in
+    let bits = c.bits_of-bits.ensures ∙ ap (mesh_bits s.dims s.states) (row_id s.dims c.requires.dims h c.requires.layer c.args.j c.loop-i.i c.requires.row i) in
     let new : Draft = record {
       first = c.loop-i.draft.first;
       before = c.push.new.self;
       nodes = c.push-else-is_err.new.self;
-      count = c.loop-i.draft.count + count_ones c.bits_at-bits.result;
+      count = c.loop-i.draft.count + count_ones c.bits_of-bits.result;
     } in
     record {
       draft =
           subst (λ n. IsDraft s.dims s.states n new) (one_further (layer_start s.dims h + c.args.j * row_len s.dims.nx h) c.loop-i.i)
-          (draft_more s.dims s.states _ c.loop-i.draft new c.bits_at-bits.result c.loop-i.invariant.draft bits refl
+          (draft_more s.dims s.states _ c.loop-i.draft new c.bits_of-bits.result c.loop-i.invariant.draft bits refl
           (pushed _ _ _ _ c.push-else-is_err.ensures.items c.if-is_err-2.ensures.negation)
           (pushed _ _ _ _ c.push.ensures.items c.if-is_err.ensures.negation)
           refl);

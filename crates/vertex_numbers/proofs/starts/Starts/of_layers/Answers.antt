@@ -1,11 +1,7 @@
-use Rattle.std.proofs.Common.{◌≡◌, ◌+◌, ◌-◌, ◌/◌, ◌<◌, ◌≤◌, ℕ, length, take, arith, ap, sym, subst, ◌∙◌}
+use Rattle.std.proofs.Common.{◌<◌, ◌≤◌, ℕ, length, take, arith, ap, sym, subst, ◌∙◌}
 use Rattle.std.specs.Prelude.{sum_by}
-use Rattle.definitions.specs.declared.Dims.{Dims}
-use Rattle.definitions.specs.Lattice.{layers, vertices}
-use Rattle.definitions.specs.Layout.{layer_start}
-use Rattle.node_laws.proofs.Layers.{all_start}
-use Rattle.vertex_numbers.proofs.LayerStarts.{counts_len, counts_to, starts_rise}
-use Rattle.vertex_numbers.proofs.NumberedIds.{are_of_ids, are_starts, bits_len, number_is, used_is}
+use Rattle.definitions.specs.Lattice.{layers}
+use Rattle.vertex_numbers.proofs.LayerStarts.{counts_len, counts_to}
 use Rattle.vertex_numbers.proofs.starts.Starts.of_layers.Goals as goal
 
 from_within : (from to l : ℕ) → from < to → to ≤ l → from < l
@@ -16,53 +12,9 @@ node_start-requires c =
     subst (λ n. c.args.from < n) (sym (ap length c.requires.offsets ∙ counts_len c.args.states.now.dims c.args.states.now.states))
     (from_within c.args.from c.args.to (layers c.args.states.now.dims) c.requires.some c.requires.within)
 
-pub drafted-requires-clause-count : goal.drafted-requires-clause-count
-drafted-requires-clause-count c =
+pub starts_from-requires-clause-count : goal.starts_from-requires-clause-count
+starts_from-requires-clause-count c =
     let s = c.args.states.now in
     c.node_start.ensures
     ∙ ap (λ counts. sum_by (λ c. c.nodes) (take c.args.from counts)) c.requires.offsets
     ∙ counts_to s.dims s.states c.args.from (let l = from_within c.args.from c.args.to (layers s.dims) c.requires.some c.requires.within in omega arith)
-
--- the ids of the draft
-all_ids : (first id : ℕ) → first ≤ id → first + (id - first) ≡ id
-all_ids first id le = omega arith
-
-inside : (n s l m : ℕ) → n < s + m → m ≡ l → n < s + l
-inside n s l m h e = omega arith
-
-within : (d : Dims) (to first : ℕ) → to ≤ layers d → first ≤ layer_start d to → first + (layer_start d to - first) ≤ length (vertices d)
-within d to first le begun =
-    subst (λ n. n ≤ length (vertices d)) (sym (all_ids first (layer_start d to) begun))
-    (subst (λ n. layer_start d to ≤ n) (all_start d) (starts_rise d to (layers d) le (let r : layers d ≤ layers d = omega arith in r)))
-
-pub invariant_of-result : goal.invariant_of-result
-invariant_of-result c =
-    let s = c.args.states.now in
-    let draft = c.in_ok-first.field-0 in
-    let is = c.in_ok-first.ensures.draft in
-    are_starts s.dims s.states draft.first _ draft.nodes.items draft.before.items (are_of_ids s.dims s.states _ draft is) c.requires.dims (within s.dims c.args.to draft.first c.requires.within is.begun)
-
-pub returns-clause-end : goal.returns-clause-end
-returns-clause-end c =
-    let s = c.args.states.now in
-    let draft = c.in_ok-first.field-0 in
-    let is = c.in_ok-first.ensures.draft in
-    ap (λ n. draft.first + n) (bits_len s.dims s.states draft.first _ draft.nodes.items draft.before.items (are_of_ids s.dims s.states _ draft is)) ∙ all_ids draft.first _ is.begun
-
-pub returns-clause-used : goal.returns-clause-used
-returns-clause-used c = λ key h.
-    let s = c.args.states.now in
-    let draft = c.in_ok-first.field-0 in
-    let are = are_of_ids s.dims s.states _ draft c.in_ok-first.ensures.draft in
-    let len = bits_len s.dims s.states draft.first _ draft.nodes.items draft.before.items are in
-    used_is s.dims s.states draft.first _ draft.nodes.items draft.before.items are key h.low (inside (key / 8) draft.first _ _ h.high len)
-
-pub returns-clause-number : goal.returns-clause-number
-returns-clause-number c = λ key h o.
-    let s = c.args.states.now in
-    let draft = c.in_ok-first.field-0 in
-    let is = c.in_ok-first.ensures.draft in
-    let are = are_of_ids s.dims s.states _ draft is in
-    let len = bits_len s.dims s.states draft.first _ draft.nodes.items draft.before.items are in
-    number_is s.dims s.states draft.first _ draft.nodes.items draft.before.items are key h.low (inside (key / 8) draft.first _ _ h.high len)
-    (within s.dims c.args.to draft.first c.requires.within is.begun) o

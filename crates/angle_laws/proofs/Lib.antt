@@ -1,0 +1,2 @@
+pub mod LeastOfLists
+pub mod MeshBounds

@@ -1,5 +1,0 @@
-use Rattle.dihedral.proofs.SignedProducts.{product_back}
-use Rattle.dihedral.proofs.vectors.times.Goals as goal
-
-pub returns : goal.returns
-returns c = product_back c.args.a c.args.b c.requires.a c.requires.b

@@ -1,0 +1,3 @@
+pub mod Displacements
+pub mod Distances
+pub mod DisplacedRows

@@ -1,0 +1,3 @@
+pub mod Displacements
+pub mod DisplacedRows
+pub mod Laws

@@ -1,0 +1,12 @@
+//! Tests of the values and signs at the vertices of small images, of their states, and of the numbers of nodes and
+//! tetrahedra that follow.
+#![tactic(auto)]
+
+#[cfg(test)]
+mod fields;
+#[cfg(test)]
+mod numbers;
+#[cfg(test)]
+mod states;
+#[cfg(test)]
+mod values;

@@ -1,0 +1,11 @@
+pub mod Results
+pub mod NextVertex
+pub mod Numberings
+pub mod NodePlaces
+pub mod Layers
+pub mod Pieces
+pub mod LowestNodes
+pub mod Sizes
+pub mod Meshes
+pub mod WholeTetrahedra
+pub mod MeshAngles

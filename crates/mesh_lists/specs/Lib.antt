@@ -1,0 +1,5 @@
+pub mod Parts
+pub mod Made
+pub mod Layers
+pub use Rattle.definitions.specs.Mesh
+pub use Rattle.place_laws.specs.Inside

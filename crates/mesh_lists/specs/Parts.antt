@@ -1,0 +1,76 @@
+-- Parts of the mesh: the nodes of a vertex, and pieces by the numbers of their nodes.
+use Rattle.std.specs.Prelude.{◌≡◌, ℕ, ◌*◌, true, List, [], ◌∷◌, filter, flat_map, length, map}
+use Rattle.std.specs.List.{range_with_len}
+use Rattle.definitions.specs.declared.Dims.{Dims}
+use Rattle.definitions.specs.declared.Vertex.{Vertex}
+use Rattle.definitions.specs.declared.Sign.TheVariants.{Plus}
+use Rattle.definitions.specs.declared.State.{State}
+use Rattle.definitions.specs.Lattice.{id, vertices}
+use Rattle.definitions.specs.Values.{Field}
+use Rattle.definitions.specs.Tetrahedra.{tets_from}
+use Rattle.definitions.specs.Mesh.{Mesh, all_pieces, layer_node_keys, layer_pieces, node_keys, node_place, number_of, occurs, tet_pieces}
+use Rattle.vertex_numbers.specs.declared.LayerCount.{LayerCount}
+use Rattle.vertex_numbers.specs.declared.Later.{Later}
+use Rattle.vertex_numbers.specs.Later.{AreBelow, AreLater, HaveSign}
+use Rattle.vertex_numbers.specs.Numbering.{Holds, Numbering, number_in, used_in}
+
+-- the keys of a vertex: of itself and of the cuts on its edges upwards
+abbrev pub keys_of_vertex : ℕ → List ℕ
+keys_of_vertex n = range_with_len (8 * n) 8
+
+-- those that occur
+abbrev pub keys_at : Dims → List State → ℕ → List ℕ
+keys_at d ss n = filter (occurs (all_pieces d ss)) (keys_of_vertex n)
+
+-- pieces by the numbers of their nodes
+abbrev pub numbered : Dims → List State → List (List ℕ) → List (List ℕ)
+numbered d ss ps = map (map (number_of (node_keys d ss))) ps
+
+-- those of a lattice tetrahedron, and those of all whose lowest vertex is v
+abbrev pub numbered_in : Dims → List State → List Vertex → List (List ℕ)
+numbered_in d ss tet = numbered d ss (tet_pieces d ss tet)
+
+abbrev pub numbered_from : Dims → List State → Vertex → List (List ℕ)
+numbered_from d ss v = numbered d ss (flat_map (tet_pieces d ss) (tets_from d v))
+
+-- a numbering of all nodes of the mesh
+pub record NumbersMesh (d : Dims) (ss : List State) (n : Numbering) : Type 0 where
+  pub first : n.first ≡ 0
+  pub len : n.len ≡ length (vertices d)
+  pub used : (key : ℕ) → Holds n key → used_in n key ≡ occurs (all_pieces d ss) key
+  pub number : (key : ℕ) → Holds n key → occurs (all_pieces d ss) key ≡ true → number_in n key ≡ number_of (node_keys d ss) key
+
+-- what layer h has
+abbrev pub count_of_layer : Dims → List State → ℕ → LayerCount
+count_of_layer d ss h = record { h = h; nodes = length (layer_node_keys d ss h); tets = length (layer_pieces d ss h) }
+
+-- the mesh of a field with these states of all vertices
+unfoldable pub mesh_of : Field → List State → Mesh
+mesh_of f ss = record { places = map (node_place f ss) (node_keys f.dims ss); tets = numbered f.dims ss (all_pieces f.dims ss) }
+
+-- the pieces of the six lattice tetrahedra at a vertex, by the numbers of this vertex and of its neighbours upwards, where all are Plus
+abbrev pub whole_tets : ℕ → Later → List (List ℕ)
+whole_tets own n =
+    (own ∷ n.first ∷ n.sixth ∷ n.fourth ∷ [])
+    ∷ (own ∷ n.second ∷ n.fifth ∷ n.sixth ∷ [])
+    ∷ (own ∷ n.third ∷ n.fourth ∷ n.seventh ∷ [])
+    ∷ (own ∷ n.third ∷ n.seventh ∷ n.fifth ∷ [])
+    ∷ (own ∷ n.fourth ∷ n.sixth ∷ n.seventh ∷ [])
+    ∷ (own ∷ n.fifth ∷ n.seventh ∷ n.sixth ∷ [])
+    ∷ []
+
+-- the numbers are those of the vertices with these ids
+pub record AreNumbers (n : Numbering) (ids numbers : Later) : Type 0 where
+  pub first : numbers.first ≡ number_in n (8 * ids.first)
+  pub second : numbers.second ≡ number_in n (8 * ids.second)
+  pub third : numbers.third ≡ number_in n (8 * ids.third)
+  pub fourth : numbers.fourth ≡ number_in n (8 * ids.fourth)
+  pub fifth : numbers.fifth ≡ number_in n (8 * ids.fifth)
+  pub sixth : numbers.sixth ≡ number_in n (8 * ids.sixth)
+  pub seventh : numbers.seventh ≡ number_in n (8 * ids.seventh)
+
+-- the ids are those of the neighbours upwards of a vertex, and it and they are all Plus
+pub record IsWhole (d : Dims) (ss : List State) (v : Vertex) (ids : Later) : Type 0 where
+  pub later : AreLater d v ids
+  pub below : AreBelow (length (vertices d)) ids
+  pub signs : HaveSign ss (id d v) ids Plus

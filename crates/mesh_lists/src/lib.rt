@@ -1,0 +1,19 @@
+//! The mesh of a field on one thread: the places of its nodes and its tetrahedra, as plain lists; and its least and
+//! greatest angle.
+#![tactic(auto)]
+
+mod angles;
+mod build;
+mod mesh;
+mod order;
+mod places;
+mod tetrahedra;
+mod whole;
+
+pub use angles::extremes;
+pub use build::build_mesh;
+pub use mesh::Mesh;
+pub use order::next_vertex;
+pub use places::push_nodes;
+pub use tetrahedra::push_tets_from;
+pub use whole::{Whole, six_tets, whole_numbers};

@@ -1,0 +1,81 @@
+use Rattle.std.proofs.Common.{rules, ◌≡◌, ◌+◌, ◌<◌, ◌≤◌, ℕ, List, arith, refl, length, subst, sym, ap, ◌∙◌}
+use Rattle.std.specs.Prelude.{flat_map}
+use Rattle.std.specs.List.{range_with_len}
+use Rattle.std.proofs.KnownBytes.{Appends-trans}
+use Rattle.std.specs.Io.KnownBytes.{Appends}
+use Rattle.definitions.specs.Layout.{slabs}
+use Rattle.node_ele_write.proofs.Pieces.{on_err}
+use Rattle.slab_emit.specs.declared.Part.{Part}
+use Rattle.slab_emit.specs.Parts.{AreParts}
+use Rattle.slab_emit.specs.Sources.{slab_lines}
+use Rattle.mesh_rounds.specs.Rounds.{extremes_to, text_of}
+use Rattle.mesh_rounds.proofs.AllRounds.{all_slabs, broke, found_all, found_none, parts_text, slabs_then, stopped}
+use Rattle.mesh_rounds.proofs.lines.put_lines.Goals as goal
+
+both : (a b s : ℕ) → a ≤ s → b ≡ s → b ≤ a → a ≡ s
+both a b s h e k = omega arith
+
+pub loop-reached-init : goal.loop-reached-init
+loop-reached-init g c = record {
+  text = search rules;
+  reached = record { within = omega arith; found = found_none c.args.lines c.args.source.now; fractions = λ x e. (let q = e in cc) };
+  crew = omega arith;
+  faults = refl;
+  is_open = c.requires.is_open;
+  name = refl;
+  tried = refl;
+  input = refl;
+  others = λ p ne. refl;
+  held = λ n. refl;
+}
+
+pub returns-in_default-clause-part : goal.returns-in_default-clause-part
+returns-in_default-clause-part g c = stopped c.args.lines c.args.source.now c.loop-reached.reached.first (g.D.Desk.ports c.args.desk.now c.args.port).text (g.D.Desk.ports c.loop-reached.desk c.args.port).text c.slabs-slabs.ensures.size c.loop-reached.invariant.reached.within c.loop-reached.invariant.text
+
+pub returns-in_err-put_parts-clause-part : goal.returns-in_err-put_parts-clause-part
+returns-in_err-put_parts-clause-part g c =
+    let n = slabs c.args.source.now.field.dims c.args.source.now.slab in
+    let parts = c.in-Ok.parts.items in
+    let same = c.deref.ensures.value in
+    let le : c.loop-reached.reached.first + length parts ≤ n = subst (λ m. m ≤ n) c.in-Ok.ensures.first c.in-Ok.ensures.reached.within in
+    on_err c.from_residual.result
+    (broke c.args.lines c.args.source.now c.loop-reached.reached.first c.deref.result.now (g.D.Desk.ports c.args.desk.now c.args.port).text (g.D.Desk.ports c.loop-reached.desk c.args.port).text (g.D.Desk.ports c.put_parts.new.desk c.args.port).text c.slabs-slabs.ensures.size (subst (λ (ps : List Part). c.loop-reached.reached.first + length ps ≤ n) (sym same) le)
+    (subst (AreParts c.args.lines c.args.source.now c.loop-reached.reached.first) (sym same) c.in-Ok.ensures.parts) c.loop-reached.invariant.text c.in_err-put_parts.ensures.part)
+
+pub loop-reached-preserved : goal.loop-reached-preserved
+loop-reached-preserved g c =
+    let i = c.loop-reached.invariant in
+    let e = c.in_ok-put_parts.ensures in
+    let m = c.loop-reached.reached.first in
+    let parts = c.in-Ok.parts.items in
+    let lines = slab_lines c.args.lines c.args.source.now in
+    let text : text_of c.deref.result.now ≡ flat_map lines (range_with_len m (length parts)) = ap text_of c.deref.ensures.value ∙ parts_text c.args.lines c.args.source.now m parts c.in-Ok.ensures.parts in
+    record {
+      text =
+          subst (λ (t : List ℕ). Appends (g.D.Desk.ports c.args.desk.now c.args.port).text (g.D.Desk.ports c.put_parts.new.desk c.args.port).text t)
+          (slabs_then lines m (length parts) ∙ ap (λ k. flat_map lines (range_with_len 0 k)) (sym c.in-Ok.ensures.first))
+          (Appends-trans (g.D.Desk.ports c.args.desk.now c.args.port).text (g.D.Desk.ports c.loop-reached.desk c.args.port).text (g.D.Desk.ports c.put_parts.new.desk c.args.port).text (flat_map lines (range_with_len 0 m)) (flat_map lines (range_with_len m (length parts))) i.text
+          (subst (λ (t : List ℕ). Appends (g.D.Desk.ports c.loop-reached.desk c.args.port).text (g.D.Desk.ports c.put_parts.new.desk c.args.port).text t) text e.all));
+      reached = c.in-Ok.ensures.reached;
+      crew = omega arith;
+      faults = search rules;
+      is_open = e.is_open;
+      name = e.name ∙ i.name;
+      tried = e.tried ∙ i.tried;
+      input = e.input ∙ i.input;
+      others = λ p ne. e.others p ne ∙ i.others p ne;
+      held = λ k. e.held k ∙ i.held k;
+    }
+
+pub returns-clause-all : goal.returns-clause-all
+returns-clause-all g c =
+    let s = c.args.source.now in
+    let end : c.loop-reached.reached.first ≡ slabs s.field.dims s.slab = both c.loop-reached.reached.first _ (slabs s.field.dims s.slab) c.loop-reached.invariant.reached.within c.slabs-slabs.ensures.slabs c.loop-reached-test.false in
+    subst (λ (t : List ℕ). Appends (g.D.Desk.ports c.args.desk.now c.args.port).text (g.D.Desk.ports c.loop-reached.desk c.args.port).text t)
+    (ap (λ k. flat_map (slab_lines c.args.lines s) (range_with_len 0 k)) end ∙ all_slabs c.args.lines s c.slabs-slabs.ensures.size) c.loop-reached.invariant.text
+
+pub returns-clause-found : goal.returns-clause-found
+returns-clause-found g c =
+    let s = c.args.source.now in
+    let end : c.loop-reached.reached.first ≡ slabs s.field.dims s.slab = both c.loop-reached.reached.first _ (slabs s.field.dims s.slab) c.loop-reached.invariant.reached.within c.slabs-slabs.ensures.slabs c.loop-reached-test.false in
+    found_all c.args.lines s c.loop-reached.reached.found c.slabs-slabs.ensures.size (c.loop-reached.invariant.reached.found ∙ ap (extremes_to c.args.lines s) end)

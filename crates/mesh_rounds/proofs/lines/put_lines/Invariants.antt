@@ -1,0 +1,26 @@
+use Rattle.std.proofs.Common.{◌≡◌, ◌≢◌, ◌-◌, ◌≤◌, ℕ, List, true}
+use Rattle.std.specs.Prelude.{flat_map}
+use Rattle.std.specs.List.{range_with_len}
+use Rattle.std.specs.Io.KnownBytes.{Appends}
+use Rattle.formats.specs.declared.Port.{Port}
+use Rattle.definitions.specs.Layout.{slabs}
+use Rattle.mesh_rounds.specs.Rounds.{IsReached}
+use Rattle.slab_emit.specs.Sources.{slab_lines}
+use Rattle.mesh_rounds.proofs.lines.put_lines.Given as goal
+
+abbrev pub invariant-loop-reached : goal.invariant-loop-reached
+invariant-loop-reached g l = record {
+  text : Appends (g.D.Desk.ports l.initial.desk l.port).text (g.D.Desk.ports l.desk l.port).text (flat_map (slab_lines l.lines l.source) (range_with_len 0 l.reached.first));
+  reached : IsReached l.lines l.source l.reached;
+  crew : 1 ≤ l.crew;
+  faults : (g.D.Desk.ports l.desk l.port).faults ≡ (g.D.Desk.ports l.initial.desk l.port).faults;
+  is_open : (g.D.Desk.ports l.desk l.port).is_open ≡ true;
+  name : (g.D.Desk.ports l.desk l.port).name ≡ (g.D.Desk.ports l.initial.desk l.port).name;
+  tried : g.D.Desk.tried l.desk ≡ g.D.Desk.tried l.initial.desk;
+  input : g.D.Desk.input l.desk ≡ g.D.Desk.input l.initial.desk;
+  others : (p : Port) → p ≢ l.port → g.D.Desk.ports l.desk p ≡ g.D.Desk.ports l.initial.desk p;
+  held : (n : List ℕ) → g.D.Desk.held l.desk n ≡ g.D.Desk.held l.initial.desk n;
+}
+
+abbrev pub decreases-loop-reached : goal.decreases-loop-reached
+decreases-loop-reached g l = slabs l.source.field.dims l.source.slab - l.reached.first

@@ -1,0 +1,43 @@
+-- The lines of all slabs, and what is found on the way.
+use Rattle.std.specs.Prelude.{◌≡◌, ℕ, ◌≤◌, List, [], flat_map, Option, None}
+use Rattle.std.specs.List.{range_with_len}
+use Rattle.std.specs.Option.{ForSome}
+use Rattle.definitions.specs.declared.Extremes.{Extremes}
+use Rattle.definitions.specs.Angles.{angles, extremes_of}
+use Rattle.definitions.specs.Layout.{slabs}
+use Rattle.dihedral.specs.Fractions.{AreFractions}
+use Rattle.mesh_texts.specs.Lines.{ele_lines, node_lines}
+use Rattle.mesh_lists.specs.Parts.{mesh_of}
+use Rattle.slab_emit.specs.declared.Lines.{Lines}
+use Rattle.slab_emit.specs.declared.Lines.TheVariants.{Nodes, Tets, Angles}
+use Rattle.slab_emit.specs.declared.Part.{Part}
+use Rattle.slab_emit.specs.Sources.{SourceValue, slab_angles}
+use Rattle.mesh_rounds.specs.declared.rounds.Reached.{Reached}
+
+-- all lines
+abbrev pub all_lines : Lines → SourceValue → List ℕ
+all_lines (Nodes step) s = node_lines step 0 (mesh_of s.field s.states).places
+all_lines Tets s = ele_lines 0 (mesh_of s.field s.states).tets
+all_lines Angles s = []
+
+-- the extremes of the first slabs
+abbrev pub extremes_to : Lines → SourceValue → ℕ → Option Extremes
+extremes_to (Nodes step) s n = None
+extremes_to Tets s n = extremes_of (flat_map (slab_angles s) (range_with_len 0 n))
+extremes_to Angles s n = extremes_of (flat_map (slab_angles s) (range_with_len 0 n))
+
+-- those of all
+abbrev pub all_extremes : Lines → SourceValue → Option Extremes
+all_extremes (Nodes step) s = None
+all_extremes Tets s = extremes_of (angles (mesh_of s.field s.states))
+all_extremes Angles s = extremes_of (angles (mesh_of s.field s.states))
+
+-- the text of parts
+abbrev pub text_of : List Part → List ℕ
+text_of ps = flat_map (λ p. p.text.items) ps
+
+-- some slabs are done
+pub record IsReached (lines : Lines) (s : SourceValue) (r : Reached) : Type 0 where
+  pub within : r.first ≤ slabs s.field.dims s.slab
+  pub found : r.found ≡ extremes_to lines s r.first
+  pub fractions : ForSome r.found AreFractions

@@ -1,0 +1,12 @@
+//! The files of a mesh to a port round by round, and the extremes of its angles without its files: some slabs are made
+//! by workers, written and given up, and then the next.
+#![tactic(auto)]
+
+mod files;
+mod folding;
+mod lines;
+mod rounds;
+
+pub use files::{put_nodes, put_tets};
+pub use lines::put_lines;
+pub use rounds::extremes;

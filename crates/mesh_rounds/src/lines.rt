@@ -1,0 +1,94 @@
+ghost use Rattle.std.specs.Prelude.{◌≡◌, ◌≢◌, ◌≤◌, ℕ, List, true, Err, OnOk, OnErr, IfOk, IsErrOf};
+ghost use Rattle.std.specs.Io.KnownBytes.{Appends};
+ghost use Rattle.formats.specs.declared.Port.{Port};
+ghost use Rattle.st_base.specs.Causes.{Rose};
+ghost use Rattle.st_base.specs.Desk.{AppendsPart};
+ghost use Rattle.slab_emit.specs.Sources.{CanPrint};
+ghost use Rattle.mesh_rounds.specs.Rounds.{all_extremes, all_lines, text_of};
+
+use crate::rounds::{Reached, next_round};
+use dihedral::Extremes;
+use node_ele_write::{PutFault, WriteFault, put_all};
+use slab_emit::{Crew, Lines, Part, Source};
+use st_base::{Desk, Gate, Port};
+use std::alloc::Global;
+use std::thread::Threads;
+
+// Writes the texts of parts, one after another.
+fn put_parts<D: Desk>(desk: &mut D, port: Port, parts: &[Part]) -> Result<(), PutFault>
+    requires is_open { (D.ports desk.old port).is_open ≡ true }
+    ensures all { OnOk result (Appends (D.ports desk.old port).text (D.ports desk.new port).text (text_of parts.now)) }
+    ensures part { OnErr result (AppendsPart (D.ports desk.old port).text (D.ports desk.new port).text (text_of parts.now)) }
+    ensures memory { result ≢ Err PutFault.NoMemory }
+    ensures fault { IsErrOf result PutFault.WriteFault → Rose (D.ports desk.old port).faults (D.ports desk.new port).faults }
+    ensures none { result ≢ Err PutFault.WriteFault → (D.ports desk.new port).faults ≡ (D.ports desk.old port).faults }
+    ensures later { (D.ports desk.old port).faults ≤ (D.ports desk.new port).faults }
+    ensures is_open { (D.ports desk.new port).is_open ≡ true }
+    ensures name { (D.ports desk.new port).name ≡ (D.ports desk.old port).name }
+    ensures tried { D.tried desk.new ≡ D.tried desk.old }
+    ensures input { D.input desk.new ≡ D.input desk.old }
+    ensures others { (p : Port) → p ≢ port → D.ports desk.new p ≡ D.ports desk.old p }
+    ensures held { (n : List ℕ) → D.held desk.new n ≡ D.held desk.old n }
+{
+    for n in 0..parts.len() {
+        let part = &parts[n];
+        match put_all(desk, port, &part.text) {
+            Ok(()) => {}
+            Err(WriteFault) => return Err(PutFault::WriteFault),
+        }
+    }
+    Ok(())
+}
+
+/// Writes the lines of all slabs to an open port, round by round, or some first bytes of them before a fault; and
+/// gives the extremes of the angles where these are the lines of tetrahedra.
+pub fn put_lines<D: Desk, G: Gate + Sync, R: Threads + Sync>(
+    rt: &R,
+    alloc: Global,
+    desk: &mut D,
+    port: Port,
+    source: &Source,
+    lines: Lines,
+    workers: u32,
+    gate: &G,
+) -> Result<Option<Extremes>, PutFault>
+    requires is_open { (D.ports desk.old port).is_open ≡ true }
+    requires low { 1 ≤ workers }
+    requires high { workers ≤ 64 }
+    requires printable { CanPrint lines source.now }
+    ensures all { OnOk result (Appends (D.ports desk.old port).text (D.ports desk.new port).text (all_lines lines source.now)) }
+    ensures part { OnErr result (AppendsPart (D.ports desk.old port).text (D.ports desk.new port).text (all_lines lines source.now)) }
+    ensures found { IfOk result (λ found. found ≡ all_extremes lines source.now) }
+    ensures fault { IsErrOf result PutFault.WriteFault → Rose (D.ports desk.old port).faults (D.ports desk.new port).faults }
+    ensures none { result ≢ Err PutFault.WriteFault → (D.ports desk.new port).faults ≡ (D.ports desk.old port).faults }
+    ensures later { (D.ports desk.old port).faults ≤ (D.ports desk.new port).faults }
+    ensures is_open { (D.ports desk.new port).is_open ≡ true }
+    ensures name { (D.ports desk.new port).name ≡ (D.ports desk.old port).name }
+    ensures tried { D.tried desk.new ≡ D.tried desk.old }
+    ensures input { D.input desk.new ≡ D.input desk.old }
+    ensures others { (p : Port) → p ≢ port → D.ports desk.new p ≡ D.ports desk.old p }
+    ensures held { (n : List ℕ) → D.held desk.new n ≡ D.held desk.old n }
+{
+    let slabs = source.slabs();
+    let mut crew = Crew::new(alloc, workers);
+    let mut reached = Reached {
+        first: 0,
+        found: None,
+    };
+    while reached.first < slabs {
+        let Ok(parts) = next_round(
+            rt,
+            alloc,
+            source,
+            lines,
+            slabs,
+            &mut crew,
+            gate,
+            &mut reached,
+        ) else {
+            return Err(PutFault::NoMemory);
+        };
+        put_parts(desk, port, &parts)?;
+    }
+    Ok(reached.found)
+}

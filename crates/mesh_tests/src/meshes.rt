@@ -1,0 +1,170 @@
+ghost use Rattle.std.specs.Prelude.{All, negsuc, pos, ◌≤ℤ◌};
+ghost use Rattle.std.specs.Bool.{OnTrue};
+
+use dihedral::{Cosine, Extreme, Extremes};
+use mesh_lists::{Mesh, build_mesh, extremes};
+use samples::{Field, Level};
+use snap_rule::Shares;
+use st_base::{Dims, Kind, Place, Volume};
+use std::alloc::Global;
+
+// The places of the nodes of the mesh of one sample.
+const PLACES: [[i64; 3]; 15] = [
+    [0, 0, -4096],
+    [-2341, -2341, -2341],
+    [2341, -2341, -2341],
+    [-2341, 2341, -2341],
+    [2341, 2341, -2341],
+    [0, -4096, 0],
+    [-4096, 0, 0],
+    [0, 0, 0],
+    [4096, 0, 0],
+    [0, 4096, 0],
+    [-2341, -2341, 2341],
+    [2341, -2341, 2341],
+    [-2341, 2341, 2341],
+    [2341, 2341, 2341],
+    [0, 0, 4096],
+];
+
+// Its tetrahedra.
+const TETS: [[u32; 4]; 24] = [
+    [0, 1, 2, 7],
+    [0, 1, 7, 3],
+    [0, 2, 4, 7],
+    [0, 3, 7, 4],
+    [1, 2, 7, 5],
+    [1, 3, 6, 7],
+    [1, 5, 7, 10],
+    [1, 6, 10, 7],
+    [2, 4, 7, 8],
+    [2, 5, 11, 7],
+    [2, 7, 11, 8],
+    [3, 4, 9, 7],
+    [3, 6, 7, 12],
+    [3, 7, 9, 12],
+    [4, 7, 8, 13],
+    [4, 7, 13, 9],
+    [5, 7, 10, 11],
+    [6, 7, 12, 10],
+    [7, 8, 13, 11],
+    [7, 9, 12, 13],
+    [7, 10, 11, 14],
+    [7, 10, 14, 12],
+    [7, 11, 13, 14],
+    [7, 12, 14, 13],
+];
+
+// Some nodes of the mesh of two samples in a row, and their places.
+const PLACES_OF_TWO: [(usize, [i64; 3]); 4] = [
+    (0, [0, 0, -4096]),
+    (1, [8192, 0, -4096]),
+    (3, [2731, -2731, -2731]),
+    (4, [10533, -2341, -2341]),
+];
+
+fn are_short(samples: &[i64]) -> bool
+    ensures low { OnTrue result (All (λ z. negsuc 32767 ≤ℤ z) samples.now) }
+    ensures high { OnTrue result (All (λ z. z ≤ℤ pos 32767) samples.now) }
+{
+    samples.iter().all(|s| -32768 <= *s && *s <= 32767)
+}
+
+// One number for the first half of the samples, and one for the rest.
+fn halves(alloc: Global, count: u32, first: i64, rest: i64) -> Option<Vec<i64>> {
+    let mut samples = Vec::new(alloc);
+    for k in 0..count {
+        let sample = if k <= (count - 1) / 2 { first } else { rest };
+        samples.push(sample).ok()?;
+    }
+    Some(samples)
+}
+
+// The mesh of a small image of two numbers at a level, given as its double.
+fn mesh(
+    alloc: Global,
+    dims: Dims,
+    numbers: (i64, i64),
+    twice: i64,
+    below: bool,
+    shares: Shares,
+) -> Option<Mesh> {
+    let Dims { nx, ny, nz } = dims;
+    if nx < 1 || nx > 9 || ny < 1 || ny > 9 || nz < 1 || nz > 9 {
+        return None;
+    }
+    let samples = halves(alloc, nx * ny * nz, numbers.0, numbers.1)?;
+    if samples.len() != (nx * ny * nz) as usize || !are_short(&samples) {
+        return None;
+    }
+    let volume = Volume::new(dims, 1, Kind::Short, samples);
+    let level = Level::new(twice)?;
+    let Ok(field) = Field::new(alloc, &volume, level, below) else {
+        return None;
+    };
+    build_mesh(alloc, &field, shares).ok()
+}
+
+/// The mesh of ones at level 1/2, with the usual shares.
+pub(crate) fn mesh_of_ones(alloc: Global, nx: u32, ny: u32, nz: u32) -> Option<Mesh> {
+    let shares = Shares::new(1023, 1687)?;
+    mesh(alloc, Dims { nx, ny, nz }, (1, 1), 1, false, shares)
+}
+
+#[test]
+fn how_large_meshes_are(rt: HostRuntime) {
+    // sizes; the first half of the samples, the rest; twice the level, whether what is below is filled; shares of long
+    // and of short edges; nodes, tetrahedra
+    for (nx, ny, nz, first, rest, twice, below, long, short, nodes, tets) in [
+        (1, 1, 1, 1, 1, 1, false, 1023, 1687, 15, 24),
+        (1, 1, 1, 1, 1, 2, false, 1023, 1687, 0, 0),
+        (1, 1, 1, -1, -1, -1, true, 1023, 1687, 15, 24),
+        (2, 1, 1, 1, 1, 1, false, 1023, 1687, 24, 44),
+        (2, 1, 1, 1, 1, 1, false, 1023, 0, 28, 52),
+        (2, 1, 1, 1, -20000, 1, false, 0, 0, 0, 0),
+        (2, 2, 2, 1, 1, 1, false, 1023, 1687, 59, 144),
+    ] {
+        let shares = Shares::new(long, short).expect(&rt, "shares");
+        let dims = Dims { nx, ny, nz };
+        let mesh = mesh(rt.alloc(), dims, (first, rest), twice, below, shares);
+        let mesh = mesh.expect(&rt, "a mesh");
+        assert_eq!(rt; (mesh.places().len(), mesh.tets().len()), (nodes, tets));
+        assert_eq!(rt; extremes(&mesh).is_none(), tets == 0);
+    }
+}
+
+#[test]
+fn mesh_of_one_sample(rt: HostRuntime) {
+    let mesh = mesh_of_ones(rt.alloc(), 1, 1, 1).expect(&rt, "a mesh");
+    assert_eq!(rt; mesh.tets(), TETS.as_slice());
+    for (node, [x, y, z]) in PLACES.iter().copied().enumerate() {
+        assert_eq!(rt; mesh.places().get(node), Some(&Place { x, y, z }));
+    }
+    let least = Extreme {
+        cosine: Cosine {
+            sign: 1,
+            num: 1,
+            den: 4,
+        },
+        tet: 0,
+        ends: [1, 7],
+    };
+    let greatest = Extreme {
+        cosine: Cosine {
+            sign: 0,
+            num: 0,
+            den: 1,
+        },
+        tet: 0,
+        ends: [0, 7],
+    };
+    assert_eq!(rt; extremes(&mesh), Some(Extremes { least, greatest }));
+}
+
+#[test]
+fn places_of_snapped_nodes(rt: HostRuntime) {
+    let mesh = mesh_of_ones(rt.alloc(), 2, 1, 1).expect(&rt, "a mesh");
+    for (node, [x, y, z]) in PLACES_OF_TWO {
+        assert_eq!(rt; mesh.places().get(node), Some(&Place { x, y, z }));
+    }
+}

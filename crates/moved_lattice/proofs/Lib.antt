@@ -1,0 +1,16 @@
+pub mod EveryKind
+pub mod SlotSums
+pub mod Norms
+pub mod PointForms
+pub mod Contraction
+pub mod OwnForms
+pub mod CommonPoint
+pub mod CommonSums
+pub mod LatticeVertices
+pub mod Cells
+pub mod Locate
+pub mod ShortSegments
+pub mod Segments
+pub mod OneToOne
+pub mod VertexOrder
+pub mod WeightedVolumes

@@ -1,0 +1,4 @@
+pub mod Steps
+pub mod KindFound
+pub mod Words
+pub mod MatrixRows

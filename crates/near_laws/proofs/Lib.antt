@@ -1,0 +1,4 @@
+pub mod Displacements
+pub mod Spans
+pub mod NodeSpans
+pub mod NearNodes

@@ -1,0 +1,37 @@
+-- Numbers as texts behind a space.
+use Rattle.std.specs.Prelude.{◌≡◌, ℕ, ◌*◌, ◌^◌, ◌<◌, ◌≤◌, List, ◌∷◌, decimal, length, take}
+use Rattle.mesh_texts.specs.Coordinates.{padded_decimal}
+
+-- a space and the digits
+abbrev pub spaced : ℕ → List ℕ
+spaced n = 32 ∷ decimal n
+
+-- a number with bytes, of which the first `len` are its text
+pub record NumberText : Type 0 where
+  pub bytes : List ℕ
+  pub len : ℕ
+  pub number : ℕ
+
+pub record IsText (t : NumberText) : Type 0 where
+  pub text : take t.len t.bytes ≡ spaced t.number
+  pub count : t.len ≡ length (spaced t.number)
+  pub few : t.len ≤ 11
+
+-- the bytes of a row, and where they end in its buffer
+pub record RowText : Type 0 where
+  pub text : List ℕ
+  pub end : ℕ
+
+-- a part of a buffer of n bytes
+pub record IsWithin (start end n : ℕ) : Type 0 where
+  pub order : start ≤ end
+  pub within : end ≤ n
+
+-- bytes, and the number of parts of 8192 that they are the text of
+pub record FractionText : Type 0 where
+  pub bytes : List ℕ
+  pub parts : ℕ
+
+pub record IsFraction (f : FractionText) : Type 0 where
+  pub text : take 14 f.bytes ≡ 46 ∷ padded_decimal 13 (f.parts * 5 ^ 13)
+  pub part : f.parts < 8192

@@ -1,0 +1,102 @@
+ghost use Rattle.std.specs.Prelude.{◌≡◌, ◌+◌, ◌*◌, ◌^◌, ◌≤◌, ◌<◌, [], ◌∷◌, ◌++◌, decimal, OnOk, OnErr};
+ghost use Rattle.mesh_texts.specs.Coordinates.{padded_decimal};
+ghost use Rattle.node_ele_write.specs.Texts.{spaced};
+
+use crate::fractions::{DECIMALS, FRACTION_WIDTH, Fraction};
+use crate::texts::{Text, WIDTH};
+use itoa::write_digits;
+use st_base::NoMemory;
+use std::marker::Model;
+
+/// The bytes of a row: a number of 64 bits, four texts or three coordinates, the end of the line, and what follows
+/// the last of them.
+pub const ROW: usize = 112;
+
+/// Where the first number of a row ends.
+const FIRST: usize = 20;
+
+/// A line of numbers that grows at its end. Contracts see its bytes, and where they end in the buffer.
+#[derive(Drop)]
+pub struct Row {
+    bytes: [u8; ROW],
+    start: usize,
+    end: usize,
+}
+
+impl Model for Row {
+    ghost use Rattle.std.specs.Prelude.{take, drop, ◌≤◌};
+    ghost use Rattle.node_ele_write.specs.declared.row.TheConstants.{ROW};
+    ghost use Rattle.node_ele_write.specs.Texts.{IsWithin, RowText};
+
+    ghost Value = { RowText };
+
+    ghost view = { λ row. record { text = drop row.start (take row.end row.bytes); end = row.end } };
+
+    ghost invariant = { λ row. IsWithin row.start row.end ROW };
+}
+
+impl Row {
+    /// An empty row.
+    pub fn new() -> Row {
+        Row {
+            bytes: [0; ROW],
+            start: FIRST,
+            end: FIRST,
+        }
+    }
+
+    /// Begins the row anew with a number.
+    #[inline(always)]
+    pub fn begin(&mut self, number: u64)
+        ensures text { self.new.text ≡ decimal number }
+        ensures end { self.new.end ≡ 20 }
+    {
+        self.start = write_digits(number, &mut self.bytes, FIRST);
+        self.end = FIRST;
+    }
+
+    /// Puts a byte at the end.
+    #[inline(always)]
+    pub fn byte(&mut self, byte: u8)
+        requires { self.old.end < ROW }
+        ensures text { self.new.text ≡ self.old.text ++ byte ∷ [] }
+        ensures end { self.new.end ≡ self.old.end + 1 }
+    {
+        self.bytes[self.end] = byte;
+        self.end += 1;
+    }
+
+    /// Puts a number behind a space at the end.
+    #[inline(always)]
+    pub fn text(&mut self, text: &Text)
+        requires { self.old.end + WIDTH ≤ ROW }
+        ensures text { self.new.text ≡ self.old.text ++ spaced text.now.number }
+        ensures end { self.new.end ≤ self.old.end + 11 }
+    {
+        self.bytes[self.end..self.end + WIDTH].copy_from_slice(text.bytes());
+        self.end += text.len();
+    }
+
+    /// Puts a fraction at the end.
+    #[inline(always)]
+    pub fn fraction(&mut self, fraction: &Fraction)
+        requires { self.old.end + FRACTION_WIDTH ≤ ROW }
+        ensures text { self.new.text ≡ self.old.text ++ (46 ∷ padded_decimal 13 (fraction.now.parts * 5 ^ 13)) }
+        ensures end { self.new.end ≡ self.old.end + DECIMALS }
+    {
+        self.bytes[self.end..self.end + FRACTION_WIDTH].copy_from_slice(fraction.bytes());
+        self.end += DECIMALS;
+    }
+
+    /// Puts the row behind a text, or leaves the text as it is.
+    #[inline(always)]
+    pub fn append_to(&self, out: &mut Vec<u8>) -> Result<(), NoMemory>
+        ensures ok { OnOk result (out.new.items ≡ out.old.items ++ self.now.text) }
+        ensures unchanged { OnErr result (out.new.items ≡ out.old.items) }
+    {
+        match out.extend_from_slice(&self.bytes[self.start..self.end]) {
+            Ok(()) => Ok(()),
+            Err(_) => Err(NoMemory),
+        }
+    }
+}

@@ -1,0 +1,6 @@
+pub mod Everywhere
+pub mod Distances
+pub mod LatticeVectors
+pub mod Parents
+pub mod OrientedPieces
+pub mod Nodes

@@ -1,0 +1,3 @@
+pub mod Everywhere
+pub mod Parents
+pub mod Laws

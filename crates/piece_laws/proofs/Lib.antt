@@ -1,0 +1,4 @@
+pub mod Renaming
+pub mod CommonPiece
+pub mod PiecesMeet
+pub mod SignedVolumes

@@ -1,0 +1,4 @@
+pub mod Results
+pub mod Drawing
+pub mod Placing
+pub mod Totals

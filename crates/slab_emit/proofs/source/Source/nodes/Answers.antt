@@ -1,0 +1,12 @@
+use Rattle.std.proofs.Common.{ap, ◌∙◌, length}
+use Rattle.std.specs.Prelude.{sum_by}
+use Rattle.mesh_lists.specs.Parts.{mesh_of}
+use Rattle.vertex_numbers.specs.declared.LayerCount.{LayerCount}
+use Rattle.slab_emit.specs.Sources.{SourceValue}
+use Rattle.slab_emit.proofs.Totals.{all_nodes}
+use Rattle.slab_emit.proofs.source.Source.nodes.Goals as goal
+
+pub returns : goal.returns
+returns c =
+    c.nodes.ensures ∙ ap (sum_by (λ (c : LayerCount). c.nodes)) c.self.invariant.offsets ∙ all_nodes c.self.inside.field.now c.self.inside.states.now.states
+    ∙ ap (λ (s : SourceValue). length (mesh_of s.field s.states).places) c.self.view_is

@@ -1,0 +1,105 @@
+ghost use Rattle.std.specs.Prelude.{◌≡◌, ◌+◌, ◌<◌, ◌≤◌, ◌^◌, ℕ, All, length, slice_index_or};
+ghost use Rattle.definitions.specs.Layout.{slabs};
+ghost use Rattle.slab_emit.specs.Sources.{CanPrint};
+ghost use Rattle.slab_emit.specs.Workers.{HasMade, IsFinished, IsMade, IsReady};
+
+use crate::{Lines, Part, Source, part_of};
+use slab_claims::{Claim, ClaimSeat, Claims};
+use slab_texts::Tools;
+use st_base::{Gate, NoMemory};
+use std::alloc::Global;
+use std::thread;
+use std::thread::Threads;
+
+/// What was made of a number that was drawn: the part of that slab of the round, unless there was no memory.
+#[derive(Drop)]
+pub struct Made {
+    pub at: u32,
+    pub part: Result<Part, NoMemory>,
+}
+
+/// A worker of a round: its number, its seat at the claims, its tools, and what it has made.
+#[derive(Drop)]
+pub struct Worker {
+    pub number: u32,
+    pub seat: ClaimSeat,
+    pub tools: Tools,
+    pub made: Vec<Made>,
+}
+
+// What is made of a number.
+fn made_of(
+    alloc: Global,
+    tools: &mut Tools,
+    source: &Source,
+    lines: Lines,
+    first: u32,
+    at: u32,
+) -> Made
+    requires slab { first + at < slabs source.now.field.dims source.now.slab }
+    requires small { first + at < 2 ^ 32 }
+    requires printable { CanPrint lines source.now }
+    ensures at { result.at ≡ at }
+    ensures made { IsMade lines source.now first result }
+{
+    Made {
+        at,
+        part: part_of(alloc, tools, source, lines, first + at),
+    }
+}
+
+/// Draws numbers until there are no more, and makes the part of each. One that finds no memory goes on drawing.
+pub fn run_worker<G: Gate>(
+    alloc: Global,
+    source: &Source,
+    lines: Lines,
+    first: u32,
+    claims: &Claims,
+    gate: &G,
+    worker: &mut Worker,
+)
+    requires ready { IsReady claims.now worker.old }
+    requires slabs { first + claims.now.slabs ≤ slabs source.now.field.dims source.now.slab }
+    requires small { first + claims.now.slabs < 2 ^ 32 }
+    requires printable { CanPrint lines source.now }
+    ensures finished { IsFinished claims.now worker.new }
+    ensures made { HasMade lines source.now first worker.new }
+    ensures share { worker.new.seat.share ≡ worker.old.seat.share }
+{
+    let mut next = 0u64;
+    while let Claim::Slab(at) = claims.claim(&mut worker.seat) {
+        gate.pass(worker.number, first + at);
+        let made = made_of(alloc, &mut worker.tools, source, lines, first, at);
+        worker.made.push_reserved(made);
+        next = u64::from(at) + 1;
+    }
+}
+
+/// Runs the workers, each in a thread of its own where one can be made.
+pub fn run_all<G: Gate + Sync, R: Threads + Sync>(
+    rt: &R,
+    alloc: Global,
+    source: &Source,
+    lines: Lines,
+    first: u32,
+    claims: &Claims,
+    gate: &G,
+    workers: &mut [Worker],
+)
+    requires some { 0 < length workers.old }
+    requires slabs { first + claims.now.slabs ≤ slabs source.now.field.dims source.now.slab }
+    requires small { first + claims.now.slabs < 2 ^ 32 }
+    requires printable { CanPrint lines source.now }
+    requires ready { All (IsReady claims.now) workers.old }
+    ensures finished { (i : ℕ) (d : _) → i < length workers.old → IsFinished claims.now (slice_index_or workers.new i d) }
+    ensures made { (i : ℕ) (d : _) → i < length workers.old → HasMade lines source.now first (slice_index_or workers.new i d) }
+    ensures shares { (i : ℕ) (d : _) → i < length workers.old → (slice_index_or workers.new i d).seat.share ≡ (slice_index_or workers.old i d).seat.share }
+{
+    let count = workers.len();
+    thread::for_each_mut(
+        rt,
+        workers,
+        count,
+        &|_, worker| run_worker(alloc, source, lines, first, claims, gate, worker),
+    );
+}

@@ -1,0 +1,70 @@
+-- Lines of tetrahedra, one after another.
+use Rattle.std.proofs.Common.{◌≡◌, ℕ, suc, ◌+◌, ◌<◌, ◌≤◌, arith, refl, sym, ◌∙◌, ap, subst, Bool, true, false, List, [], ◌∷◌, ◌++◌, All, length, get_or, take, length-append, append_assoc, append-nil}
+use Rattle.std.specs.Prelude.{flat_map}
+use Rattle.std.proofs.lemmas.List.{get_or_append_left, get_or-append-add, length-take-le, take_more}
+use Rattle.std.specs.List.{enumerate_from}
+use Rattle.definitions.specs.declared.Place.{Place}
+use Rattle.definitions.specs.Angles.{angles_of, extremes_of}
+use Rattle.mesh_texts.specs.Lines.{ele_line, ele_lines}
+use Rattle.slab_texts.specs.declared.lines.TetLines.{TetLines}
+use Rattle.slab_texts.specs.Texts.{AddsTets, lines_if}
+
+-- numbered lists in two parts
+pub numbered_append : {X Y : Type 0} (f : ℕ × X → List Y) (from : ℕ) (xs ys : List X) → flat_map f (enumerate_from from (xs ++ ys)) ≡ flat_map f (enumerate_from from xs) ++ flat_map f (enumerate_from (from + length xs) ys)
+numbered_append f from [] ys = let e : from + 0 ≡ from = omega arith in ap (λ n. flat_map f (enumerate_from n ys)) (sym e)
+numbered_append f from (x ∷ xs) ys =
+    let e : from + 1 + length xs ≡ from + suc (length xs) = omega arith in
+    ap (λ l. f (from, x) ++ l) (numbered_append f (from + 1) xs ys ∙ ap (λ n. flat_map f (enumerate_from (from + 1) xs) ++ flat_map f (enumerate_from n ys)) e)
+    ∙ sym (append_assoc (f (from, x)) (flat_map f (enumerate_from (from + 1) xs)) (flat_map f (enumerate_from (from + suc (length xs)) ys)))
+
+-- what holds of both parts
+pub all_left : {X : Type 0} (P : X → Type 0) (xs ys : List X) → All P (xs ++ ys) → All P xs
+all_left P xs ys h = λ k d lt. subst P (get_or_append_left xs ys d k lt) (h k d (let l = length-append xs ys in omega arith))
+
+pub all_right : {X : Type 0} (P : X → Type 0) (xs ys : List X) → All P (xs ++ ys) → All P ys
+all_right P xs ys h = λ k d lt. subst P (get_or-append-add xs ys k d) (h (length xs + k) d (let l = length-append xs ys in omega arith))
+
+-- lines of both
+pub lines_then : (writes : Bool) (from : ℕ) (xs ys : List (List ℕ)) → lines_if writes from xs ++ lines_if writes (from + length xs) ys ≡ lines_if writes from (xs ++ ys)
+lines_then true from xs ys = sym (numbered_append ele_line from xs ys)
+lines_then false from xs ys = refl
+
+no_lines : (writes : Bool) (from : ℕ) → [] ≡ lines_if writes from []
+no_lines true from = refl
+no_lines false from = refl
+
+module _ (places : List Place) where
+  pub adds_none : (a : TetLines) → AddsTets places a [] a
+  adds_none a = record {
+    text = sym (append-nil a.text.items) ∙ ap (λ l. a.text.items ++ l) (no_lines a.writes a.number);
+    writes = refl;
+    number = (let e : a.number ≡ a.number + 0 = omega arith in e);
+    angles = λ xs e. e ∙ ap extremes_of (sym (append-nil xs));
+  }
+
+  pub adds_more : (a b c : TetLines) (xs ys : List (List ℕ)) → AddsTets places a xs b → AddsTets places b ys c → AddsTets places a (xs ++ ys) c
+  adds_more a b c xs ys h k =
+      let next : b.number ≡ a.number + length xs = h.number in
+      record {
+        text =
+            k.text ∙ (λ i. h.text i ++ lines_if (h.writes i) (next i) ys) ∙ append_assoc a.text.items (lines_if a.writes a.number xs) (lines_if a.writes (a.number + length xs) ys)
+            ∙ ap (λ l. a.text.items ++ l) (lines_then a.writes a.number xs ys);
+        writes = k.writes ∙ h.writes;
+        number = (let e = k.number in let l = length-append xs ys in omega arith);
+        angles = λ zs e.
+            (k.angles (zs ++ flat_map (angles_of places) (enumerate_from a.number xs)) (h.angles zs e)
+            ∙ ap extremes_of
+            (ap (λ n. (zs ++ flat_map (angles_of places) (enumerate_from a.number xs)) ++ flat_map (angles_of places) (enumerate_from n ys)) next
+            ∙ append_assoc zs (flat_map (angles_of places) (enumerate_from a.number xs)) (flat_map (angles_of places) (enumerate_from (a.number + length xs) ys))
+            ∙ ap (λ l. zs ++ l) (sym (numbered_append (angles_of places) a.number xs ys))));
+      }
+
+-- one more numbered line
+pub line_more : {X : Type 0} (f : ℕ × X → List ℕ) (from n : ℕ) (xs : List X) (d : X) (a b c : List ℕ) → n < length xs → b ≡ a ++ flat_map f (enumerate_from from (take n xs)) → c ≡ b ++ f (from + n, get_or xs n d) → c ≡ a ++ flat_map f (enumerate_from from (take (n + 1) xs))
+line_more f from n xs d a b c lt e g =
+    let count : length (take n xs) ≡ n = length-take-le n xs (let h : n ≤ length xs = omega arith in h) in
+    g ∙ ap (λ l. l ++ f (from + n, get_or xs n d)) e ∙ append_assoc a (flat_map f (enumerate_from from (take n xs))) (f (from + n, get_or xs n d))
+    ∙ ap (λ l. a ++ l)
+    (ap (λ l. flat_map f (enumerate_from from (take n xs)) ++ l) (sym (append-nil (f (from + n, get_or xs n d))) ∙ ap (λ m. flat_map f (enumerate_from (from + m) (get_or xs n d ∷ []))) (sym count))
+    ∙ sym (numbered_append f from (take n xs) (get_or xs n d ∷ []))
+    ∙ ap (λ l. flat_map f (enumerate_from from l)) (sym (take_more xs n d lt)))

@@ -1,0 +1,10 @@
+pub mod Adding
+pub mod Spans
+pub mod Numbers
+pub mod Places
+pub mod Walks
+pub mod Pieces
+pub mod Measured
+pub mod Counts
+pub mod SpanIds
+pub mod Joining

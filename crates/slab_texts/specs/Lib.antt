@@ -1,0 +1,4 @@
+pub mod Spans
+pub mod Nodes
+pub mod Texts
+pub mod Laws

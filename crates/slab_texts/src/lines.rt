@@ -1,0 +1,214 @@
+ghost use Rattle.std.specs.Prelude.{◌≡◌, ◌+◌, ◌<◌, ◌≤◌, ◌^◌, ◌++◌, ◌∷◌, [], List, All, OnOk, length, map};
+ghost use Rattle.definitions.specs.declared.Place.{Place};
+ghost use Rattle.definitions.specs.Soundness.{corner_places};
+ghost use Rattle.definitions.specs.Vectors.{place_at};
+ghost use Rattle.slab_texts.specs.Nodes.{AreInRow};
+ghost use Rattle.dihedral.specs.Shapes.{Covers};
+ghost use Rattle.mesh_lists.specs.Parts.{whole_tets};
+ghost use Rattle.slab_texts.specs.Texts.{Adds, AreAmong, AreMeasuredIn, IsAmong, later_places, lines_if};
+
+use crate::Nodes;
+use dihedral::{Remembering, Seven};
+use mesh_lists::{Whole, six_tets};
+use node_ele_write::Pen;
+use st_base::{NoMemory, Place};
+use std::alloc::Global;
+
+/// What lines are made with, one slab after another: a pen, and room for the tetrahedra at a vertex.
+#[derive(Drop)]
+pub struct Tools {
+    pub pen: Pen,
+    pub tets: Vec<[u32; 4]>,
+}
+
+impl Tools {
+    /// Tools, which take two thirds of a mebibyte.
+    pub fn new(alloc: Global) -> Result<Tools, NoMemory> {
+        Ok(Tools {
+            pen: Pen::new(alloc)?,
+            tets: Vec::new(alloc),
+        })
+    }
+}
+
+/// Lines of tetrahedra, whether they are written or only counted, the number of the next one, and the extremes of the
+/// angles so far.
+#[derive(Drop)]
+pub struct TetLines {
+    pub text: Vec<u8>,
+    pub writes: bool,
+    pub number: u64,
+    pub angles: Remembering,
+}
+
+// The place of the node with a number.
+fn place_of(nodes: &Nodes, number: u32) -> Place
+    requires { IsAmong nodes.now number }
+    ensures { (all : List Place) → AreInRow all nodes.now.first nodes.now.places.items → result ≡ place_at all number }
+{
+    nodes.places[(number - nodes.first) as usize]
+}
+
+// The places of a tetrahedron's nodes.
+fn places_of(nodes: &Nodes, numbers: [u32; 4]) -> [Place; 4]
+    requires { All (IsAmong nodes.now) numbers }
+    ensures { (all : List Place) → AreInRow all nodes.now.first nodes.now.places.items → result ≡ corner_places all numbers }
+{
+    let [a, b, c, d] = numbers;
+    [
+        place_of(nodes, a),
+        place_of(nodes, b),
+        place_of(nodes, c),
+        place_of(nodes, d),
+    ]
+}
+
+// The line of the next tetrahedron, where lines are written.
+fn push_line(numbers: [u32; 4], pen: &mut Pen, out: &mut TetLines) -> Result<(), NoMemory>
+    ensures text { OnOk result (out.new.text.items ≡ out.old.text.items ++ lines_if out.old.writes out.old.number (numbers ∷ [])) }
+    ensures writes { out.new.writes ≡ out.old.writes }
+    ensures number { out.new.number ≡ out.old.number }
+    ensures angles { out.new.angles ≡ out.old.angles }
+{
+    if out.writes {
+        pen.ele_line(&mut out.text, out.number, numbers)
+    } else {
+        Ok(())
+    }
+}
+
+// The next tetrahedron, whose nodes have these numbers.
+fn push_tet(
+    nodes: &Nodes,
+    numbers: [u32; 4],
+    pen: &mut Pen,
+    out: &mut TetLines,
+) -> Result<(), NoMemory>
+    requires among { All (IsAmong nodes.now) numbers }
+    requires measured { AreMeasuredIn nodes.now (numbers ∷ []) }
+    requires room { out.old.number + 1 < 2 ^ 64 }
+    ensures adds { OnOk result (Adds nodes.now out.old (numbers ∷ []) out.new) }
+    ensures few { out.new.number ≤ out.old.number + 1 }
+{
+    let tet = places_of(nodes, numbers);
+    push_line(numbers, pen, out)?;
+    out.angles.take(tet, out.number, numbers);
+    out.number += 1;
+    Ok(())
+}
+
+// The next tetrahedron, whose angles are within the extremes so far.
+fn push_known_tet(
+    _nodes: &Nodes,
+    numbers: [u32; 4],
+    pen: &mut Pen,
+    out: &mut TetLines,
+) -> Result<(), NoMemory>
+    requires known { (all : List Place) → AreInRow all _nodes.now.first _nodes.now.places.items → Covers out.old.angles (corner_places all numbers) }
+    requires room { out.old.number + 1 < 2 ^ 64 }
+    ensures adds { OnOk result (Adds _nodes.now out.old (numbers ∷ []) out.new) }
+    ensures few { out.new.number ≤ out.old.number + 1 }
+    ensures angles { out.new.angles ≡ out.old.angles }
+{
+    push_line(numbers, pen, out)?;
+    out.number += 1;
+    Ok(())
+}
+
+// Tetrahedra whose angles are.
+fn push_known(
+    nodes: &Nodes,
+    tets: &[[u32; 4]],
+    pen: &mut Pen,
+    out: &mut TetLines,
+) -> Result<(), NoMemory>
+    requires known { (all : List Place) → AreInRow all nodes.now.first nodes.now.places.items → All (Covers out.old.angles) (map (corner_places all) tets.now) }
+    requires room { out.old.number + length tets.now < 2 ^ 64 }
+    ensures adds { OnOk result (Adds nodes.now out.old tets.now out.new) }
+    ensures few { out.new.number ≤ out.old.number + length tets.now }
+{
+    for n in 0..tets.len() {
+        push_known_tet(nodes, tets[n], pen, out)?;
+    }
+    Ok(())
+}
+
+// The places of the neighbours upwards of a vertex where the lattice tetrahedra are whole.
+#[inline(always)]
+fn places_around(nodes: &Nodes, whole: &Whole) -> Seven
+    requires { All (AreAmong nodes.now) (whole_tets whole.now.own whole.now.later) }
+    ensures { (all : List Place) → AreInRow all nodes.now.first nodes.now.places.items → result ≡ later_places all whole.now.later }
+{
+    let later = &whole.later;
+    Seven {
+        first: place_of(nodes, later.first),
+        second: place_of(nodes, later.second),
+        third: place_of(nodes, later.third),
+        fourth: place_of(nodes, later.fourth),
+        fifth: place_of(nodes, later.fifth),
+        sixth: place_of(nodes, later.sixth),
+        seventh: place_of(nodes, later.seventh),
+    }
+}
+
+/// Tetrahedra, one after another.
+pub fn push_all(
+    nodes: &Nodes,
+    tets: &[[u32; 4]],
+    pen: &mut Pen,
+    out: &mut TetLines,
+) -> Result<(), NoMemory>
+    requires among { All (AreAmong nodes.now) tets.now }
+    requires measured { AreMeasuredIn nodes.now tets.now }
+    requires room { out.old.number + length tets.now < 2 ^ 64 }
+    ensures adds { OnOk result (Adds nodes.now out.old tets.now out.new) }
+    ensures few { out.new.number ≤ out.old.number + length tets.now }
+{
+    for n in 0..tets.len() {
+        push_tet(nodes, tets[n], pen, out)?;
+    }
+    Ok(())
+}
+
+// The same for the six lattice tetrahedra at a vertex, which are remembered for the next such vertex.
+fn push_new(
+    nodes: &Nodes,
+    six: &[[u32; 4]],
+    own: Place,
+    others: &Seven,
+    pen: &mut Pen,
+    out: &mut TetLines,
+) -> Result<(), NoMemory>
+    requires among { All (AreAmong nodes.now) six.now }
+    requires measured { AreMeasuredIn nodes.now six.now }
+    requires room { out.old.number + length six.now < 2 ^ 64 }
+    ensures adds { OnOk result (Adds nodes.now out.old six.now out.new) }
+    ensures few { out.new.number ≤ out.old.number + length six.now }
+{
+    push_all(nodes, six, pen, out)?;
+    out.angles.learn(own, others);
+    Ok(())
+}
+
+/// The six lattice tetrahedra at a vertex where they are whole. Mostly their angles are known at once.
+pub fn push_whole(
+    nodes: &Nodes,
+    whole: &Whole,
+    pen: &mut Pen,
+    out: &mut TetLines,
+) -> Result<(), NoMemory>
+    requires among { All (AreAmong nodes.now) (whole_tets whole.now.own whole.now.later) }
+    requires measured { AreMeasuredIn nodes.now (whole_tets whole.now.own whole.now.later) }
+    requires room { out.old.number + 6 < 2 ^ 64 }
+    ensures adds { OnOk result (Adds nodes.now out.old (whole_tets whole.now.own whole.now.later) out.new) }
+    ensures few { out.new.number ≤ out.old.number + 6 }
+{
+    let six = six_tets(whole);
+    let own = place_of(nodes, whole.own);
+    let others = places_around(nodes, whole);
+    if out.angles.knows_six(own, &others) {
+        push_known(nodes, &six, pen, out)
+    } else {
+        push_new(nodes, &six, own, &others, pen, out)
+    }
+}

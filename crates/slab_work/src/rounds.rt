@@ -1,0 +1,64 @@
+ghost use Rattle.std.specs.Prelude.{◌≡◌, ◌-◌, ◌*◌, ◌<◌, ◌≤◌, IfOk, length, min};
+ghost use Rattle.command_line.specs.Grammar.{IsPlan};
+ghost use Rattle.definitions.specs.Layout.{slabs};
+ghost use Rattle.slab_emit.specs.Parts.{AreParts};
+ghost use Rattle.slab_work.specs.Surveyed.{AreKept, surveyed};
+
+use crate::source_of;
+use command_line::Plan;
+use slab_emit::{Crew, Lines, Part, emit};
+use st_base::{Gate, NoMemory};
+use std::alloc::Global;
+use std::thread::Threads;
+use survey::Survey;
+
+/// The lines of the nodes of the slabs from `first` on, four slabs for each worker of the plan or as many as there are,
+/// in the order of slabs. Each place is in steps of `step` raw voxels.
+pub fn emit_nodes<G: Gate + Sync, R: Threads + Sync>(
+    rt: &R,
+    alloc: Global,
+    survey: &Survey,
+    step: u32,
+    plan: Plan,
+    gate: &G,
+    first: u32,
+) -> Result<Vec<Part>, NoMemory>
+    requires first { first < slabs survey.now.subject.field.dims survey.now.layout.slab }
+    requires plan { IsPlan plan }
+    requires step { step ≤ 64 }
+    requires sizes { AreKept step survey.now.subject.field.dims }
+    ensures parts { IfOk result (λ ps. AreParts (Lines.Nodes step) (surveyed survey.now) first ps.items) }
+    ensures len { IfOk result (λ ps. length ps.items ≡ min (4 * plan.workers) (slabs survey.now.subject.field.dims survey.now.layout.slab - first)) }
+{
+    let source = source_of(survey);
+    let mut crew = Crew::new(alloc, plan.workers);
+    emit(
+        rt,
+        alloc,
+        &source,
+        Lines::Nodes { step },
+        &mut crew,
+        gate,
+        first,
+    )
+}
+
+/// The lines of the tetrahedra of these slabs, and the extremes of their angles.
+pub fn emit_tets<G: Gate + Sync, R: Threads + Sync>(
+    rt: &R,
+    alloc: Global,
+    survey: &Survey,
+    _step: u32,
+    plan: Plan,
+    gate: &G,
+    first: u32,
+) -> Result<Vec<Part>, NoMemory>
+    requires first { first < slabs survey.now.subject.field.dims survey.now.layout.slab }
+    requires plan { IsPlan plan }
+    ensures parts { IfOk result (λ ps. AreParts Lines.Tets (surveyed survey.now) first ps.items) }
+    ensures len { IfOk result (λ ps. length ps.items ≡ min (4 * plan.workers) (slabs survey.now.subject.field.dims survey.now.layout.slab - first)) }
+{
+    let source = source_of(survey);
+    let mut crew = Crew::new(alloc, plan.workers);
+    emit(rt, alloc, &source, Lines::Tets, &mut crew, gate, first)
+}

@@ -1,0 +1,5 @@
+use Rattle.sound_laws.proofs.Sound as law
+use Rattle.sound_laws.proofs.mesh_is_sound.Goals as goal
+
+pub returns : goal.returns
+returns c = law.mesh_is_sound

@@ -1,0 +1,12 @@
+pub mod Growing
+pub mod InputEndings
+pub mod TextsWritten
+pub mod KeptSizes
+pub mod PortEnds
+pub mod Printing
+pub mod Reports
+pub mod SoundMeshes
+pub mod Surveys
+pub mod Traced
+pub mod ToldInputs
+pub mod Trying

@@ -1,0 +1,90 @@
+ghost use Rattle.std.specs.Prelude.{◌≡◌, ◌≢◌, ◌≤◌, ◌<◌, ℕ, List, true, Some, Ok, Err, IfOk, IfErr, IsErrOf};
+ghost use Rattle.definitions.specs.Values.{Field as FieldValue};
+ghost use Rattle.formats.specs.Faults.{status_of};
+ghost use Rattle.formats.specs.declared.Port.{Port};
+ghost use Rattle.st_base.specs.Causes.{Rose};
+ghost use Rattle.stuff.specs.Ends.{AreKept, IsRefusal, ReadsInput, ReadsField};
+ghost use Rattle.stuff.specs.Refusals.{status_of_volume};
+
+use mha_read::{VolFault, read_head, read_volume};
+use samples::{Field, Level};
+use st_base::{Desk, HeadFault, Limits, NoMemory, Status, Volume};
+use std::alloc::Global;
+
+fn header_status(fault: HeadFault) -> Status
+    ensures { result ≡ status_of fault }
+{
+    match fault {
+        HeadFault::ReadFault => Status::ReadFault,
+        HeadFault::NoMemory => Status::NoMemory,
+        HeadFault::Unsupported { key } => Status::Unsupported { key },
+        _ => Status::BadHeader { fault },
+    }
+}
+
+fn volume_status(fault: VolFault) -> Status
+    ensures { result ≡ status_of_volume fault }
+{
+    match fault {
+        VolFault::TooLarge { padded } => Status::TooLarge { padded },
+        VolFault::Truncated { got, wanted } => Status::Truncated { got, wanted },
+        VolFault::ReadFault => Status::ReadFault,
+        VolFault::NoMemory => Status::NoMemory,
+    }
+}
+
+/// The volume of the open input, or the status of why it is refused.
+pub fn read_input<D: Desk>(alloc: Global, desk: &mut D, step: u32) -> Result<Volume, Status>
+    requires step { 1 ≤ step }
+    requires step_bound { step ≤ 64 }
+    requires is_open { (D.input desk.old).is_open ≡ true }
+    ensures told { (text : List ℕ) → (D.input desk.old).left ≡ Some text → ReadsInput result step text (D.input desk.new).left }
+    ensures sizes { IfOk result (λ v. AreKept step v.dims) }
+    ensures refusal { IfErr result IsRefusal }
+    ensures fault { IsErrOf result Status.ReadFault → Rose (D.input desk.old).faults (D.input desk.new).faults }
+    ensures none { result ≢ Err Status.ReadFault → (D.input desk.new).faults ≡ (D.input desk.old).faults }
+    ensures is_open { (D.input desk.new).is_open ≡ true }
+    ensures ports { (p : Port) → D.ports desk.new p ≡ D.ports desk.old p }
+    ensures tried { D.tried desk.new ≡ D.tried desk.old }
+    ensures held { (n : List ℕ) → D.held desk.new n ≡ D.held desk.old n }
+{
+    let head = match read_head(alloc, desk) {
+        Ok(head) => head,
+        Err(fault) => return Err(header_status(fault)),
+    };
+    match read_volume(alloc, desk, &head, step, &Limits::first()) {
+        Ok(volume) => Ok(volume),
+        Err(fault) => Err(volume_status(fault)),
+    }
+}
+
+/// The field of the open input, or the status of why the input is refused.
+pub fn read_field<D: Desk>(
+    alloc: Global,
+    desk: &mut D,
+    level: Level,
+    below: bool,
+    step: u32,
+) -> Result<Field, Status>
+    requires step { 1 ≤ step }
+    requires step_bound { step ≤ 64 }
+    requires is_open { (D.input desk.old).is_open ≡ true }
+    ensures told { (text : List ℕ) → (D.input desk.old).left ≡ Some text → ReadsField result (record { twice = level; below = below; step = step }) text (D.input desk.new).left }
+    ensures sizes { IfOk result (λ f. AreKept step f.dims) }
+    ensures refusal { IfErr result IsRefusal }
+    ensures fault { IsErrOf result Status.ReadFault → Rose (D.input desk.old).faults (D.input desk.new).faults }
+    ensures none { result ≢ Err Status.ReadFault → (D.input desk.new).faults ≡ (D.input desk.old).faults }
+    ensures is_open { (D.input desk.new).is_open ≡ true }
+    ensures ports { (p : Port) → D.ports desk.new p ≡ D.ports desk.old p }
+    ensures tried { D.tried desk.new ≡ D.tried desk.old }
+    ensures held { (n : List ℕ) → D.held desk.new n ≡ D.held desk.old n }
+{
+    let volume = match read_input(alloc, desk, step) {
+        Ok(volume) => volume,
+        Err(status) => return Err(status),
+    };
+    match Field::new(alloc, &volume, level, below) {
+        Ok(field) => Ok(field),
+        Err(NoMemory) => Err(Status::NoMemory),
+    }
+}

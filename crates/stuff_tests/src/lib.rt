@@ -1,0 +1,13 @@
+//! Tests of the top call, over desks in memory. A row of a table has the words, the input and what is wanted.
+#![tactic(auto)]
+
+#[cfg(test)]
+mod lines;
+#[cfg(test)]
+mod meshes;
+#[cfg(test)]
+mod ports;
+#[cfg(test)]
+mod rows;
+#[cfg(test)]
+mod workers;

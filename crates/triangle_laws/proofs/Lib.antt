@@ -1,0 +1,9 @@
+pub mod Sums
+pub mod Closing
+pub mod Volumes
+pub mod Overlaps
+pub mod Orders
+pub mod SharedTriangles
+pub mod DirectedTriangles
+pub mod SameNodes
+pub mod Partners
