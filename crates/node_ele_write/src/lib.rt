@@ -1,11 +1,10 @@
-//! Writes the .node and the .ele text of a mesh, and the report of how large it is and of its angles.
+//! The lines of the .node and the .ele text of a mesh, the report of how large it is and of its angles, and texts to a
+//! port of a desk.
 //!
-//! A line is made in a buffer that is used again, from texts of numbers and fractions that are kept, and a
-//! file is written to a port of a desk in pieces of about a mebibyte.
+//! A [`Pen`] makes a line in a buffer that is used again, from texts of numbers and fractions that are kept.
 #![tactic(auto)]
 
 mod fault;
-mod file;
 mod fractions;
 mod line;
 mod pen;
@@ -16,11 +15,7 @@ mod text;
 mod texts;
 
 pub use fault::PutFault;
-pub use file::{put_nodes, put_tets};
 pub use pen::Pen;
 pub use put::{WriteFault, put_all};
 pub use report::report_text;
 pub use text::{add, coordinate_text, counts_text, ele_line, node_line};
-
-#[cfg(test)]
-mod tests;

@@ -1,5 +1,8 @@
-//! Tests of the lines of meshes round by round: those of one sample, and the same bytes whatever the workers and slabs.
+//! Tests of the lines of meshes: some alone, those of one sample round by round, and the same bytes whatever the workers
+//! and slabs.
 #![tactic(auto)]
 
+#[cfg(test)]
+mod lines;
 #[cfg(test)]
 mod rounds;

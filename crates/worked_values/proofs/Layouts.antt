@@ -5,53 +5,53 @@ use Rattle.std.specs.List.{range_with_len}
 use Rattle.definitions.specs.Lattice.{dims, layers}
 use Rattle.definitions.specs.Layout.{layer_len, layer_start, slabs, slab_from, slab_to, reach}
 
-pub layers_1 : layers (dims 1 1 1) ∷ slabs (dims 1 1 1) 2 ∷ [] ≡ 5 ∷ 2 ∷ []
-layers_1 = refl
+pub layers_of_one : layers (dims 1 1 1) ∷ slabs (dims 1 1 1) 2 ∷ [] ≡ 5 ∷ 2 ∷ []
+layers_of_one = refl
 
-pub lens_1 : map (layer_len (dims 1 1 1)) (range_with_len 0 5) ≡ 9 ∷ 4 ∷ 9 ∷ 4 ∷ 9 ∷ []
+pub lens_of_one : map (layer_len (dims 1 1 1)) (range_with_len 0 5) ≡ 9 ∷ 4 ∷ 9 ∷ 4 ∷ 9 ∷ []
 unfolding all_open
-lens_1 = refl
+lens_of_one = refl
 
-pub starts_1 : map (layer_start (dims 1 1 1)) (range_with_len 0 5) ≡ 0 ∷ 9 ∷ 13 ∷ 22 ∷ 26 ∷ []
+pub starts_of_one : map (layer_start (dims 1 1 1)) (range_with_len 0 5) ≡ 0 ∷ 9 ∷ 13 ∷ 22 ∷ 26 ∷ []
 unfolding all_open
-starts_1 = refl
+starts_of_one = refl
 
-pub own_1 : map (λ j. slab_from 2 j ∷ slab_to (dims 1 1 1) 2 j ∷ []) (range_with_len 0 2) ≡ (0 ∷ 4 ∷ []) ∷ (4 ∷ 5 ∷ []) ∷ []
-own_1 = refl
+pub own_of_one : map (λ j. slab_from 2 j ∷ slab_to (dims 1 1 1) 2 j ∷ []) (range_with_len 0 2) ≡ (0 ∷ 4 ∷ []) ∷ (4 ∷ 5 ∷ []) ∷ []
+own_of_one = refl
 
-pub reach_1 : map (reach (dims 1 1 1) 2) (range_with_len 0 2) ≡ (0 ∷ 1 ∷ 2 ∷ 3 ∷ 4 ∷ []) ∷ (2 ∷ 3 ∷ 4 ∷ []) ∷ []
-reach_1 = refl
+pub reach_of_one : map (reach (dims 1 1 1) 2) (range_with_len 0 2) ≡ (0 ∷ 1 ∷ 2 ∷ 3 ∷ 4 ∷ []) ∷ (2 ∷ 3 ∷ 4 ∷ []) ∷ []
+reach_of_one = refl
 
-pub layers_4 : layers (dims 1 2 2) ∷ slabs (dims 1 2 2) 1 ∷ [] ≡ 7 ∷ 4 ∷ []
-layers_4 = refl
+pub layers_of_four_upright : layers (dims 1 2 2) ∷ slabs (dims 1 2 2) 1 ∷ [] ≡ 7 ∷ 4 ∷ []
+layers_of_four_upright = refl
 
-pub lens_4 : map (layer_len (dims 1 2 2)) (range_with_len 0 7) ≡ 12 ∷ 6 ∷ 12 ∷ 6 ∷ 12 ∷ 6 ∷ 12 ∷ []
+pub lens_of_four_upright : map (layer_len (dims 1 2 2)) (range_with_len 0 7) ≡ 12 ∷ 6 ∷ 12 ∷ 6 ∷ 12 ∷ 6 ∷ 12 ∷ []
 unfolding all_open
-lens_4 = refl
+lens_of_four_upright = refl
 
-pub starts_4 : map (layer_start (dims 1 2 2)) (range_with_len 0 7) ≡ 0 ∷ 12 ∷ 18 ∷ 30 ∷ 36 ∷ 48 ∷ 54 ∷ []
+pub starts_of_four_upright : map (layer_start (dims 1 2 2)) (range_with_len 0 7) ≡ 0 ∷ 12 ∷ 18 ∷ 30 ∷ 36 ∷ 48 ∷ 54 ∷ []
 unfolding all_open
-starts_4 = refl
+starts_of_four_upright = refl
 
-pub own_4 : map (λ j. slab_from 1 j ∷ slab_to (dims 1 2 2) 1 j ∷ []) (range_with_len 0 4) ≡ (0 ∷ 2 ∷ []) ∷ (2 ∷ 4 ∷ []) ∷ (4 ∷ 6 ∷ []) ∷ (6 ∷ 7 ∷ []) ∷ []
-own_4 = refl
+pub own_of_four_upright : map (λ j. slab_from 1 j ∷ slab_to (dims 1 2 2) 1 j ∷ []) (range_with_len 0 4) ≡ (0 ∷ 2 ∷ []) ∷ (2 ∷ 4 ∷ []) ∷ (4 ∷ 6 ∷ []) ∷ (6 ∷ 7 ∷ []) ∷ []
+own_of_four_upright = refl
 
-pub reach_4 : map (reach (dims 1 2 2) 1) (range_with_len 0 4) ≡ (0 ∷ 1 ∷ 2 ∷ 3 ∷ []) ∷ (0 ∷ 1 ∷ 2 ∷ 3 ∷ 4 ∷ 5 ∷ []) ∷ (2 ∷ 3 ∷ 4 ∷ 5 ∷ 6 ∷ []) ∷ (4 ∷ 5 ∷ 6 ∷ []) ∷ []
-reach_4 = refl
+pub reach_of_four_upright : map (reach (dims 1 2 2) 1) (range_with_len 0 4) ≡ (0 ∷ 1 ∷ 2 ∷ 3 ∷ []) ∷ (0 ∷ 1 ∷ 2 ∷ 3 ∷ 4 ∷ 5 ∷ []) ∷ (2 ∷ 3 ∷ 4 ∷ 5 ∷ 6 ∷ []) ∷ (4 ∷ 5 ∷ 6 ∷ []) ∷ []
+reach_of_four_upright = refl
 
-pub layers_7 : layers (dims 1 1 4) ∷ slabs (dims 1 1 4) 3 ∷ [] ≡ 11 ∷ 2 ∷ []
-layers_7 = refl
+pub layers_of_four_in_depth : layers (dims 1 1 4) ∷ slabs (dims 1 1 4) 3 ∷ [] ≡ 11 ∷ 2 ∷ []
+layers_of_four_in_depth = refl
 
-pub lens_7 : map (layer_len (dims 1 1 4)) (range_with_len 0 11) ≡ 9 ∷ 4 ∷ 9 ∷ 4 ∷ 9 ∷ 4 ∷ 9 ∷ 4 ∷ 9 ∷ 4 ∷ 9 ∷ []
+pub lens_of_four_in_depth : map (layer_len (dims 1 1 4)) (range_with_len 0 11) ≡ 9 ∷ 4 ∷ 9 ∷ 4 ∷ 9 ∷ 4 ∷ 9 ∷ 4 ∷ 9 ∷ 4 ∷ 9 ∷ []
 unfolding all_open
-lens_7 = refl
+lens_of_four_in_depth = refl
 
-pub starts_7 : map (layer_start (dims 1 1 4)) (range_with_len 0 11) ≡ 0 ∷ 9 ∷ 13 ∷ 22 ∷ 26 ∷ 35 ∷ 39 ∷ 48 ∷ 52 ∷ 61 ∷ 65 ∷ []
+pub starts_of_four_in_depth : map (layer_start (dims 1 1 4)) (range_with_len 0 11) ≡ 0 ∷ 9 ∷ 13 ∷ 22 ∷ 26 ∷ 35 ∷ 39 ∷ 48 ∷ 52 ∷ 61 ∷ 65 ∷ []
 unfolding all_open
-starts_7 = refl
+starts_of_four_in_depth = refl
 
-pub own_7 : map (λ j. slab_from 3 j ∷ slab_to (dims 1 1 4) 3 j ∷ []) (range_with_len 0 2) ≡ (0 ∷ 6 ∷ []) ∷ (6 ∷ 11 ∷ []) ∷ []
-own_7 = refl
+pub own_of_four_in_depth : map (λ j. slab_from 3 j ∷ slab_to (dims 1 1 4) 3 j ∷ []) (range_with_len 0 2) ≡ (0 ∷ 6 ∷ []) ∷ (6 ∷ 11 ∷ []) ∷ []
+own_of_four_in_depth = refl
 
-pub reach_7 : map (reach (dims 1 1 4) 3) (range_with_len 0 2) ≡ (0 ∷ 1 ∷ 2 ∷ 3 ∷ 4 ∷ 5 ∷ 6 ∷ 7 ∷ []) ∷ (4 ∷ 5 ∷ 6 ∷ 7 ∷ 8 ∷ 9 ∷ 10 ∷ []) ∷ []
-reach_7 = refl
+pub reach_of_four_in_depth : map (reach (dims 1 1 4) 3) (range_with_len 0 2) ≡ (0 ∷ 1 ∷ 2 ∷ 3 ∷ 4 ∷ 5 ∷ 6 ∷ 7 ∷ []) ∷ (4 ∷ 5 ∷ 6 ∷ 7 ∷ 8 ∷ 9 ∷ 10 ∷ []) ∷ []
+reach_of_four_in_depth = refl

@@ -1,6 +1,12 @@
 pub mod AllOpen
-pub mod Cuts
+pub mod Heads
+pub mod HeadEnds
+pub mod Volumes
+pub mod Statuses
+pub mod Texts
 pub mod Lattice
+pub mod Layouts
+pub mod Cuts
 pub mod States
 pub mod Stencils
 pub mod OneSample
@@ -9,7 +15,7 @@ pub mod TwoSamplesLongAlone
 pub mod EightSamples
 pub mod UpperHalfBelow
 pub mod NoTetrahedra
-pub mod Unsound
-pub mod Layouts
 pub mod RandomFields
-pub mod Heads
+pub mod SoundParts
+pub mod Unsound
+pub mod Phantoms

@@ -1,0 +1,3 @@
+pub mod Sides
+pub mod Pairs
+pub mod Open

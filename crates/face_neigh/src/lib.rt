@@ -1,0 +1,14 @@
+//! The boundary triangles of a list of tetrahedra, the neighbours of each, and the lines of both.
+#![tactic(auto)]
+
+mod across;
+mod boundary;
+mod line;
+mod pairs;
+mod side;
+mod sides;
+mod texts;
+
+pub use across::neighbours;
+pub use boundary::{faces, faces_by_neighbours};
+pub use texts::{face_line, neigh_line};

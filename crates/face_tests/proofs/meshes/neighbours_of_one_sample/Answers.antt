@@ -1,0 +1,16 @@
+use Rattle.std.proofs.Common.{refl}
+use Rattle.face_tests.specs.declared.meshes.TheConstants.{TETS}
+use Rattle.face_tests.proofs.KnownTetrahedra.{nodes_differ, by_two}
+use Rattle.face_tests.proofs.meshes.neighbours_of_one_sample.Goals as goal
+
+pub neighbours-requires-clause-differ : goal.neighbours-requires-clause-differ
+neighbours-requires-clause-differ g c = nodes_differ TETS refl
+
+pub neighbours-requires-clause-by_two : goal.neighbours-requires-clause-by_two
+neighbours-requires-clause-by_two g c = by_two TETS refl
+
+pub faces_by_neighbours-requires-clause-differ : goal.faces_by_neighbours-requires-clause-differ
+faces_by_neighbours-requires-clause-differ g c = nodes_differ TETS refl
+
+pub faces_by_neighbours-requires-clause-by_two : goal.faces_by_neighbours-requires-clause-by_two
+faces_by_neighbours-requires-clause-by_two g c = by_two TETS refl

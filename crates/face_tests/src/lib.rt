@@ -1,0 +1,7 @@
+//! Tests of boundary triangles and neighbours of small meshes, and of their lines.
+#![tactic(auto)]
+
+#[cfg(test)]
+mod lines;
+#[cfg(test)]
+mod meshes;
