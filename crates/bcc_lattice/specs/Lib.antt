@@ -2,6 +2,7 @@ pub mod Directions
 pub mod Bounds
 pub mod Layouts
 pub mod TetLists
+pub mod Laws
 pub use Rattle.definitions.specs.Lattice
 pub use Rattle.definitions.specs.Layout
 pub use Rattle.definitions.specs.Places

@@ -7,6 +7,8 @@ use std::marker::Model;
 ///
 /// Directions 1, 2 and 7 are 2 half units along x, y and z. Directions 3 to 6 are 1 half unit along
 /// each axis, upwards in z: (-1, -1), (1, -1), (-1, 1) and (1, 1) in x and y. Contracts see the number.
+///
+/// The number is at least 1 and at most 7.
 #[derive(Clone, Copy)]
 pub struct Dir {
     number: u8,

@@ -2,7 +2,8 @@ ghost use Rattle.std.specs.Prelude.{◌≡◌, ◌+◌, ◌*◌, ◌^◌, ◌<�
 ghost use Rattle.definitions.specs.Lattice.{layers, vertices};
 ghost use Rattle.definitions.specs.Layout.{layer_len, layer_start, slabs, slab_from, slab_to, reach_from, reach_to};
 
-use crate::vertices::below;
+use crate::vertices::ids_below;
+use crate::walk::{layer_len, layers};
 use st_base::Dims;
 
 /// The layers of the lattice in slabs of `2 * slab` layers, for a slab size of 1 to 64.
@@ -16,13 +17,12 @@ impl Layout {
     ghost use Rattle.bcc_lattice.specs.Layouts.{IsLayout};
 
     /// The number of layers.
-    #[tactic(auto, using(lattice_counts::proofs::Sizes::nz_small))]
     pub fn layers(&self) -> u32
         requires { IsLayout self.now.dims self.now.slab }
         ensures layers { result ≡ layers self.now.dims }
         ensures small { result ≤ 2 ^ 24 }
     {
-        2 * self.dims.nz + 3
+        layers(self.dims)
     }
 
     /// The number of slabs; the last one may hold fewer layers than the others.
@@ -35,26 +35,23 @@ impl Layout {
     }
 
     /// The id of the first vertex of layer `h`.
-    #[tactic(auto, using(lattice_counts::proofs::Ranks::start))]
     pub fn layer_start(&self, h: u32) -> u32
         requires layout { IsLayout self.now.dims self.now.slab }
         requires layer { h < layers self.now.dims }
         ensures start { result ≡ layer_start self.now.dims h }
         ensures small { result ≤ 2 ^ 27 }
     {
-        below(self.dims, h)
+        ids_below(self.dims, h)
     }
 
     /// The number of vertices of layer `h`.
-    #[tactic(auto, using(lattice_counts::proofs::Ranks::layer_length, lattice_counts::proofs::Sizes::nx_small, lattice_counts::proofs::Sizes::ny_small, lattice_counts::proofs::Sizes::layer_small))]
     pub fn layer_len(&self, h: u32) -> u32
         requires layout { IsLayout self.now.dims self.now.slab }
         requires layer { h < layers self.now.dims }
         ensures len { result ≡ layer_len self.now.dims h }
         ensures small { result < 2 ^ 25 }
     {
-        let odd = h % 2;
-        (self.dims.ny + 2 - odd) * (self.dims.nx + 2 - odd)
+        layer_len(self.dims, h)
     }
 
     /// The first layer of slab `j`, and one past its last.

@@ -8,19 +8,20 @@
 #![tactic(auto)]
 
 mod direction;
+mod laws;
 mod layout;
 mod places;
 mod state;
 mod tetrahedra;
 mod vertices;
+mod walk;
 
 pub use definitions::State;
 pub use direction::Dir;
+pub use laws::{codes_tell_states, found_tets_are_listed};
 pub use layout::Layout;
 pub use places::{cut_place, place};
-pub use state::{code, state_of};
+pub use state::{code, sign_of, state_of};
 pub use tetrahedra::{Tet, TetsAt, tets_at};
-pub use vertices::{id, in_domain, neighbour, vertex_count, vertex_of};
-
-#[cfg(test)]
-mod tests;
+pub use vertices::{id, ids_below, in_domain, neighbour, vertex_count, vertex_of};
+pub use walk::{columns, first_vertex, layer_len, layers, next_vertex, rows, vertex_in_row};

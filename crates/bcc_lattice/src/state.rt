@@ -1,8 +1,20 @@
 ghost use Rattle.std.specs.Prelude.{◌≡◌, ◌≢◌, ◌<◌, ◌^◌, MatchOption};
 ghost use Rattle.definitions.specs.declared.State.{State};
-ghost use Rattle.definitions.specs.States.{IsState, code as code_of};
+ghost use Rattle.definitions.specs.States.{IsState, code as code_of, sign_of_state};
 
-use definitions::State;
+use definitions::{Sign, State};
+
+/// The sign of a state.
+#[inline]
+pub fn sign_of(state: State) -> Sign
+    ensures { result ≡ sign_of_state state }
+{
+    match state {
+        State::Minus => Sign::Minus,
+        State::Plus => Sign::Plus,
+        State::Zero { .. } => Sign::Zero,
+    }
+}
 
 /// The word of a state: 1 for Minus, 3 for Plus, and `2 + 4 * edge + 64 * k` for Zero.
 pub fn code(state: State) -> u64

@@ -1,9 +1,11 @@
 ghost use Rattle.std.specs.Prelude.{◌≡◌, ℕ, ◌+◌, ◌*◌, ◌^◌, ◌<◌, ◌≤◌, ◌↔◌, ℤ, pos, negsuc, ◌≤ℤ◌, ◌<ℤ◌, ◌+ℤ◌, neg_ℤ, IsNone, IfSome, length, if◌then◌else◌, [], ◌∷◌, nat_lt};
 ghost use Rattle.definitions.specs.Lattice.{IsDims, InDomain, in_domain, id as id_of, layers, vertices, vertex_at, neighbour, step};
+ghost use Rattle.definitions.specs.Layout.{layer_start};
 ghost use Rattle.bcc_lattice.specs.Directions.{natural_of, IsSmallStep};
-ghost use Rattle.lattice_counts.specs.Counts.{below_layer, row_len, before_in_layer, StandsInLayer};
+ghost use Rattle.lattice_counts.specs.Counts.{below_layer, even_len, odd_len, row_len, before_in_layer, StandsInLayer};
 
 use crate::Dir;
+use crate::walk::{axis_len, columns, layer_len, layers, vertex_in_row};
 use st_base::{Dims, Vertex};
 
 /// Whether this is a vertex of the lattice: all three numbers even or all odd, and none beyond the
@@ -13,30 +15,58 @@ pub fn in_domain(dims: Dims, v: Vertex) -> bool
     requires { IsDims dims }
     ensures { result ≡ in_domain dims v }
 {
-    v.h < 2 * dims.nz + 3
-        && v.y < 2 * dims.ny + 3
-        && v.x < 2 * dims.nx + 3
+    v.h < layers(dims)
+        && v.y < axis_len(dims.ny)
+        && v.x < axis_len(dims.nx)
         && v.y % 2 == v.h % 2
         && v.x % 2 == v.h % 2
 }
 
-/// How many vertices stand below layer `h`. Two layers together, an even one and the odd one above it,
-/// are a constant number.
-#[tactic(auto, using(lattice_counts::proofs::Sizes::nx_small, lattice_counts::proofs::Sizes::ny_small, lattice_counts::proofs::Sizes::even_small, lattice_counts::proofs::Sizes::odd_small, lattice_counts::proofs::Ranks::pairs_small, lattice_counts::proofs::Ranks::below_layer_small))]
-pub fn below(dims: Dims, h: u32) -> u32
+/// How many vertices an even layer has, and an odd one.
+#[derive(Clone, Copy)]
+struct LayerPair {
+    even: u32,
+    odd: u32,
+}
+
+/// The numbers of vertices of the layers of an image.
+#[inline(always)]
+#[tactic(auto, using(lattice_counts::proofs::Sizes::even_small, lattice_counts::proofs::Sizes::odd_small))]
+fn layer_pair(dims: Dims) -> LayerPair
+    requires { IsDims dims }
+    ensures even { result.even ≡ even_len dims }
+    ensures odd { result.odd ≡ odd_len dims }
+    ensures small { result.even + result.odd < 2 ^ 26 }
+{
+    LayerPair {
+        even: layer_len(dims, 0),
+        odd: layer_len(dims, 1),
+    }
+}
+
+/// How many vertices stand in the layers below `h`, which may be one past the last: the id of the first
+/// vertex of layer `h`. Two layers together, an even one and the odd one above it, are a constant number.
+#[tactic(auto, using(lattice_counts::proofs::Ranks::start, lattice_counts::proofs::Sizes::nx_small, lattice_counts::proofs::Sizes::ny_small, lattice_counts::proofs::Sizes::even_small, lattice_counts::proofs::Sizes::odd_small, lattice_counts::proofs::Ranks::pairs_small, lattice_counts::proofs::Ranks::below_layer_small))]
+pub fn ids_below(dims: Dims, h: u32) -> u32
     requires sizes { IsDims dims }
     requires layer { h ≤ layers dims }
     ensures value { result ≡ below_layer dims h }
+    ensures start { result ≡ layer_start dims h }
     ensures small { result ≤ 2 ^ 27 }
 {
-    let even = (dims.nx + 2) * (dims.ny + 2);
-    let odd = (dims.nx + 1) * (dims.ny + 1);
+    let LayerPair { even, odd } = layer_pair(dims);
     let pairs = h / 2 * (even + odd);
     if h % 2 == 0 { pairs } else { pairs + even }
 }
 
 /// The id of a vertex: how many vertices stand before it. Ids are below 2^27, so a node's key, eight
 /// times an id and a direction, is below 2^30.
+///
+/// ```rust
+/// let dims = Dims { nx: 1, ny: 1, nz: 1 };
+/// let centre = Vertex { h: 2, y: 2, x: 2 };
+/// assert_eq!(rt; id(dims, centre), 17);
+/// ```
 #[tactic(auto, using(lattice_counts::proofs::Sizes::nx_small, lattice_counts::proofs::Ranks::place_small, lattice_counts::proofs::Ranks::rank, lattice_counts::proofs::Ranks::id_within))]
 pub fn id(dims: Dims, v: Vertex) -> u32
     requires sizes { IsDims dims }
@@ -45,8 +75,8 @@ pub fn id(dims: Dims, v: Vertex) -> u32
     ensures within { result < length (vertices dims) }
     ensures small { result < 2 ^ 27 }
 {
-    let row = dims.nx + 2 - v.h % 2;
-    below(dims, v.h) + (v.y / 2 * row + v.x / 2)
+    let row = columns(dims, v.h);
+    ids_below(dims, v.h) + (v.y / 2 * row + v.x / 2)
 }
 
 /// A layer, and how many of its vertices stand before one of them.
@@ -62,8 +92,7 @@ fn layer_place(dims: Dims, id: u32) -> LayerPlace
     requires id { id < length (vertices dims) }
     ensures { StandsInLayer dims id result.h result.before }
 {
-    let even = (dims.nx + 2) * (dims.ny + 2);
-    let odd = (dims.nx + 1) * (dims.ny + 1);
+    let LayerPair { even, odd } = layer_pair(dims);
     let twice = id / (even + odd);
     let rest = id % (even + odd);
     if rest < even {
@@ -88,13 +117,8 @@ fn vertex_in(dims: Dims, place: LayerPlace) -> Vertex
     ensures domain { InDomain dims result }
     ensures before { before_in_layer dims result ≡ place.before }
 {
-    let odd = place.h % 2;
-    let row = dims.nx + 2 - odd;
-    Vertex {
-        h: place.h,
-        y: place.before / row * 2 + odd,
-        x: place.before % row * 2 + odd,
-    }
+    let row = columns(dims, place.h);
+    vertex_in_row(place.h, place.before / row, place.before % row)
 }
 
 /// How many vertices there are, at most 2^27: ids are the numbers below.
@@ -104,7 +128,7 @@ pub fn vertex_count(dims: Dims) -> u32
     ensures count { result ≡ length (vertices dims) }
     ensures small { result ≤ 2 ^ 27 }
 {
-    below(dims, 2 * dims.nz + 3)
+    ids_below(dims, layers(dims))
 }
 
 /// The vertex of an id; none where the id is no vertex's.

@@ -12,6 +12,3 @@ mod verbs;
 pub use command::{Command, MeshSettings, Source};
 pub use numbers::{halves, level, number};
 pub use read::{read_words, words_read_once};
-
-#[cfg(test)]
-mod tests;

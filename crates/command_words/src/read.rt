@@ -62,6 +62,12 @@ fn command_by(verb: Verb, seen: &Seen) -> Option<Command>
 
 /// The command that the words are, or the place of bad words: the number of the first word with
 /// which no command goes on, or of words where all of them begin one.
+///
+/// ```rust
+/// words.push(b"count")?;
+/// words.push(b"scan.mha")?;
+/// assert_eq!(rt; read_words(&words).err(), Some(2));
+/// ```
 pub fn read_words(words: &Words) -> Result<Command, u64>
     ensures command { IfOk result (λ c. Reads words.now (meaning_of c)) }
     ensures source { IfOk result (λ c. IsSourceWithin (source_of c) (length words.now)) }

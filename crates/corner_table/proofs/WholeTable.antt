@@ -5,13 +5,13 @@ use Rattle.std.specs.Prelude.{count_by}
 use Rattle.definitions.specs.Stencils.{is_plus, is_zero, is_minus, kept, facets}
 use Rattle.corner_table.specs.declared.Shape.{Shape}
 use Rattle.corner_table.specs.declared.Shape.TheVariants.{Nothing, Tetra, Pyramid, Prism}
-use Rattle.corner_table.specs.Rows.{row_fits, row_by_signs, shape_by_counts}
+use Rattle.corner_table.specs.Rows.{row_fits, row_by_signs, solid_at, shape_by_counts}
 use Rattle.lattice_laws.specs.FiniteTests.{every_case}
 use Rattle.lattice_laws.proofs.FiniteTests.{each_case}
 
 -- each row fits its signs
 all_fit : every_case (λ xs. row_fits xs (row_by_signs xs)) ≡ true
-unfolding row_fits row_by_signs kept facets
+unfolding row_fits row_by_signs solid_at kept facets
 all_fit = refl
 
 -- each row fits its signs: it has the kept nodes and their facets
@@ -48,5 +48,5 @@ shape_fits xs = same_shape (row_by_signs xs).shape (shape_by_counts (count_by is
 
 -- the shape of a row is that of its counts of signs
 pub shape_all : (xs : List Sign) → length xs ≡ 4 → (row_by_signs xs).shape ≡ shape_by_counts (count_by is_plus xs) (count_by is_zero xs) (count_by is_minus xs)
-unfolding row_by_signs
+unfolding row_by_signs solid_at
 shape_all xs len = shape_from_same _ _ (each_case shape_fits refl xs len)

@@ -1,15 +1,18 @@
 -- The rows of the table, and what a row has to say of its signs.
-use Rattle.std.specs.Prelude.{ℕ, Bool, true, not, ◌&&◌, ◌++◌, List, [], ◌∷◌, nat_lt, nat_eq, filter, length, map, take, slice_index_or, if◌then◌else◌}
+use Rattle.std.specs.Prelude.{ℕ, Bool, true, not, ◌&&◌, ◌++◌, List, [], ◌∷◌, nat_eq, length, map, take, replicate, slice_index_or, if◌then◌else◌}
 use Rattle.std.specs.List.{list_all, list_any}
 use Rattle.definitions.specs.declared.Sign.{Sign}
+use Rattle.definitions.specs.declared.Sign.TheVariants.{Minus, Zero, Plus}
 use Rattle.definitions.specs.declared.Corner.{Corner}
-use Rattle.definitions.specs.declared.Corner.TheVariants.{Whole, Cut}
-use Rattle.definitions.specs.Facets.{same_set, are_across}
-use Rattle.definitions.specs.Stencils.{sign_at, is_plus, is_zero, is_minus, same_corner, kept, facets}
+use Rattle.definitions.specs.declared.Corner.TheVariants.{Whole}
+use Rattle.definitions.specs.Facets.{same_set, are_across, pyramid_facets, prism_facets}
+use Rattle.definitions.specs.Stencils.{sign_at, same_corner, corners, kept, facets}
 use Rattle.corner_table.specs.declared.Shape.{Shape}
 use Rattle.corner_table.specs.declared.Shape.TheVariants.{Nothing, Tetra, Pyramid, Prism}
 use Rattle.corner_table.specs.declared.Facet.{Facet}
 use Rattle.corner_table.specs.declared.Row.{Row}
+use Rattle.corner_table.specs.declared.table.Solid.{Solid}
+use Rattle.corner_table.specs.declared.table.TheConstants.{SOLIDS}
 
 -- ---- what a row has to say
 
@@ -55,65 +58,48 @@ row_fits signs row = fits_corners signs (row_corners row) && (fits_facets signs 
 abbrev pub facet_of : List ℕ → Facet
 facet_of ring = record { len = length ring; ring = take 4 (ring ++ 0 ∷ 0 ∷ 0 ∷ 0 ∷ []) }
 
-abbrev pub nothing_row : Row
-nothing_row = record {
-  shape = Nothing;
-  len = 0;
-  kept = Whole 0 ∷ Whole 0 ∷ Whole 0 ∷ Whole 0 ∷ Whole 0 ∷ Whole 0 ∷ [];
-  facets_len = 0;
-  facets = facet_of [] ∷ facet_of [] ∷ facet_of [] ∷ facet_of [] ∷ facet_of [] ∷ [];
+-- the facets of a solid
+abbrev pub facets_of : Shape → List (List ℕ)
+facets_of Nothing = []
+facets_of Tetra = (1 ∷ 2 ∷ 3 ∷ []) ∷ (0 ∷ 2 ∷ 3 ∷ []) ∷ (0 ∷ 1 ∷ 3 ∷ []) ∷ (0 ∷ 1 ∷ 2 ∷ []) ∷ []
+facets_of Pyramid = pyramid_facets
+facets_of Prism = prism_facets
+
+abbrev pub node_count : Shape → ℕ
+node_count Nothing = 0
+node_count Tetra = 4
+node_count Pyramid = 5
+node_count Prism = 6
+
+-- a solid with these nodes, and places that are left over
+abbrev pub shape_row : Shape → List Corner → Row
+shape_row shape nodes = record {
+  shape = shape;
+  len = node_count shape;
+  kept = nodes;
+  facets_len = length (facets_of shape);
+  facets = take 5 (map facet_of (facets_of shape) ++ replicate 5 (facet_of []));
 }
 
-abbrev pub tetra_row : Corner → Corner → Corner → Corner → Row
-tetra_row a b c d = record {
-  shape = Tetra;
-  len = 4;
-  kept = a ∷ b ∷ c ∷ d ∷ Whole 0 ∷ Whole 0 ∷ [];
-  facets_len = 4;
-  facets = facet_of (1 ∷ 2 ∷ 3 ∷ []) ∷ facet_of (0 ∷ 2 ∷ 3 ∷ []) ∷ facet_of (0 ∷ 1 ∷ 3 ∷ []) ∷ facet_of (0 ∷ 1 ∷ 2 ∷ []) ∷ facet_of [] ∷ [];
-}
+-- a node by its number among the ten
+abbrev pub node_at : ℕ → Corner
+node_at n = slice_index_or corners n (Whole 0)
 
-abbrev pub pyramid_row : Corner → Corner → Corner → Corner → Corner → Row
-pyramid_row a b c d e = record {
-  shape = Pyramid;
-  len = 5;
-  kept = a ∷ b ∷ c ∷ d ∷ e ∷ Whole 0 ∷ [];
-  facets_len = 5;
-  facets = facet_of (1 ∷ 2 ∷ 3 ∷ 4 ∷ []) ∷ facet_of (0 ∷ 1 ∷ 2 ∷ []) ∷ facet_of (0 ∷ 2 ∷ 3 ∷ []) ∷ facet_of (0 ∷ 3 ∷ 4 ∷ []) ∷ facet_of (0 ∷ 4 ∷ 1 ∷ []) ∷ [];
-}
+abbrev pub sign_number : Sign → ℕ
+sign_number Minus = 0
+sign_number Zero = 1
+sign_number Plus = 2
 
-abbrev pub prism_row : Corner → Corner → Corner → Corner → Corner → Corner → Row
-prism_row a b c d e f = record {
-  shape = Prism;
-  len = 6;
-  kept = a ∷ b ∷ c ∷ d ∷ e ∷ f ∷ [];
-  facets_len = 5;
-  facets = facet_of (0 ∷ 1 ∷ 2 ∷ []) ∷ facet_of (3 ∷ 4 ∷ 5 ∷ []) ∷ facet_of (0 ∷ 1 ∷ 4 ∷ 3 ∷ []) ∷ facet_of (1 ∷ 2 ∷ 5 ∷ 4 ∷ []) ∷ facet_of (2 ∷ 0 ∷ 3 ∷ 5 ∷ []) ∷ [];
-}
+-- the entry of the table with these numbers of signs
+abbrev pub entry : ℕ → ℕ → ℕ → ℕ → Solid
+entry a b c d = slice_index_or (slice_index_or (slice_index_or (slice_index_or SOLIDS a []) b []) c []) d (record { shape = Nothing; nodes = [] })
 
--- the slots whose signs pass the test
-abbrev pub slots_with : (Sign → Bool) → List Sign → List ℕ
-slots_with test signs = filter (λ slot. test (sign_at signs slot)) (0 ∷ 1 ∷ 2 ∷ 3 ∷ [])
-
-abbrev pub cut_of : ℕ → ℕ → Corner
-cut_of a b = if nat_lt a b then Cut a b else Cut b a
-
--- the row, by its plus, zero and minus slots
-abbrev pub row_of_slots : List ℕ → List ℕ → List ℕ → Row
-row_of_slots (a ∷ b ∷ c ∷ d ∷ []) [] [] = tetra_row (Whole a) (Whole b) (Whole c) (Whole d)
-row_of_slots (a ∷ b ∷ c ∷ []) (d ∷ []) [] = tetra_row (Whole a) (Whole b) (Whole c) (Whole d)
-row_of_slots (a ∷ b ∷ []) (c ∷ d ∷ []) [] = tetra_row (Whole a) (Whole b) (Whole c) (Whole d)
-row_of_slots (a ∷ []) (b ∷ c ∷ d ∷ []) [] = tetra_row (Whole a) (Whole b) (Whole c) (Whole d)
-row_of_slots (a ∷ []) [] (m ∷ n ∷ o ∷ []) = tetra_row (Whole a) (cut_of a m) (cut_of a n) (cut_of a o)
-row_of_slots (a ∷ []) (z ∷ []) (m ∷ n ∷ []) = tetra_row (Whole a) (Whole z) (cut_of a m) (cut_of a n)
-row_of_slots (a ∷ []) (y ∷ z ∷ []) (m ∷ []) = tetra_row (Whole a) (Whole y) (Whole z) (cut_of a m)
-row_of_slots (a ∷ b ∷ []) (z ∷ []) (m ∷ []) = pyramid_row (Whole z) (Whole a) (Whole b) (cut_of b m) (cut_of a m)
-row_of_slots (a ∷ b ∷ []) [] (m ∷ n ∷ []) = prism_row (Whole a) (cut_of a m) (cut_of a n) (Whole b) (cut_of b m) (cut_of b n)
-row_of_slots (a ∷ b ∷ c ∷ []) [] (m ∷ []) = prism_row (Whole a) (Whole b) (Whole c) (cut_of a m) (cut_of b m) (cut_of c m)
-row_of_slots p z m = nothing_row
+-- what the table has for four signs
+unfoldable pub solid_at : List Sign → Solid
+solid_at signs = entry (sign_number (sign_at signs 0)) (sign_number (sign_at signs 1)) (sign_number (sign_at signs 2)) (sign_number (sign_at signs 3))
 
 unfoldable pub row_by_signs : List Sign → Row
-row_by_signs signs = row_of_slots (slots_with is_plus signs) (slots_with is_zero signs) (slots_with is_minus signs)
+row_by_signs signs = shape_row (solid_at signs).shape (map node_at (solid_at signs).nodes)
 
 -- the shape, by the numbers of plus, zero and minus vertices
 abbrev pub shape_by_counts : ℕ → ℕ → ℕ → Shape

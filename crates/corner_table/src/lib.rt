@@ -4,11 +4,14 @@
 //! and the facets of what is kept as rings of positions among these nodes.
 #![tactic(auto)]
 
-ghost use Rattle.std.specs.Prelude.{◌≡◌, IsTrue, count_by};
+ghost use Rattle.std.specs.Prelude.{◌≡◌, IsTrue, count_by, map};
 ghost use Rattle.definitions.specs.Stencils.{is_plus, is_zero, is_minus};
-ghost use Rattle.corner_table.specs.Rows.{shape_by_counts, row_fits, row_by_signs, nothing_row, tetra_row, pyramid_row, prism_row};
+ghost use Rattle.corner_table.specs.Rows.{shape_by_counts, row_fits, row_by_signs, shape_row, node_at};
+
+mod table;
 
 pub use definitions::{Corner, Sign};
+use table::solid_of;
 
 /// The solid that is kept.
 #[derive(Clone, Copy, Debug, PartialEq, Eq)]
@@ -40,16 +43,60 @@ pub struct Row {
     pub facets: [Facet; 5],
 }
 
-// A whole vertex by its slot, or the cut between two slots, the lower slot first.
-macro_rules! corner {
-    ($a:tt) => { Corner::Whole($a) };
-    (1 0) => { Corner::Cut(0, 1) };
-    (2 0) => { Corner::Cut(0, 2) };
-    (3 0) => { Corner::Cut(0, 3) };
-    (2 1) => { Corner::Cut(1, 2) };
-    (3 1) => { Corner::Cut(1, 3) };
-    (3 2) => { Corner::Cut(2, 3) };
-    ($a:tt $b:tt) => { Corner::Cut($a, $b) };
+/// The row of these signs of the four slots.
+///
+/// Its nodes are those that are kept, each once, and its facets are those of what is kept, each once;
+/// in a facet of four the ring places 0 and 2, and 1 and 3, are opposite.
+///
+/// ```
+/// let row = row_of([Sign::Plus, Sign::Minus, Sign::Plus, Sign::Minus]);
+/// assert_eq!(row.shape, Shape::Prism);
+/// assert_eq!(row.kept[1], Corner::Cut(0, 1));
+/// ```
+pub fn row_of(signs: [Sign; 4]) -> Row
+    ensures row { result ≡ row_by_signs signs }
+    ensures fits { IsTrue (row_fits signs result) }
+    ensures shape { result.shape ≡ shape_by_counts (count_by is_plus signs) (count_by is_zero signs) (count_by is_minus signs) }
+{
+    let solid = solid_of(signs);
+    row_of_shape(solid.shape, nodes_of(solid.nodes))
+}
+
+// The nodes that a tetrahedron can have.
+const NODES: [Corner; 10] = [
+    Corner::Whole(0),
+    Corner::Cut(0, 1),
+    Corner::Cut(0, 2),
+    Corner::Cut(0, 3),
+    Corner::Whole(1),
+    Corner::Cut(1, 2),
+    Corner::Cut(1, 3),
+    Corner::Whole(2),
+    Corner::Cut(2, 3),
+    Corner::Whole(3),
+];
+
+fn nodes_of(numbers: [u8; 6]) -> [Corner; 6]
+    ensures { result ≡ map node_at numbers }
+{
+    let [a, b, c, d, e, f] = numbers;
+    [
+        node_of(a),
+        node_of(b),
+        node_of(c),
+        node_of(d),
+        node_of(e),
+        node_of(f),
+    ]
+}
+
+fn node_of(number: u8) -> Corner
+    ensures { result ≡ node_at number }
+{
+    NODES
+        .get(usize::from(number))
+        .copied()
+        .unwrap_or(Corner::Whole(0))
 }
 
 macro_rules! facet {
@@ -58,123 +105,59 @@ macro_rules! facet {
     ($a:literal $b:literal $c:literal $d:literal) => { Facet { len: 4, ring: [$a, $b, $c, $d] } };
 }
 
-fn nothing() -> Row
-    ensures { result ≡ nothing_row }
+// A tetrahedron has four triangles, each without one node. The facets of a pyramid are its base, and the apex with
+// each side of it; those of a prism its triangles, and a ring for each side of the one and the side across from it.
+fn row_of_shape(shape: Shape, kept: [Corner; 6]) -> Row
+    ensures { result ≡ shape_row shape kept }
 {
-    Row {
-        shape: Shape::Nothing,
-        len: 0,
-        kept: [Corner::Whole(0); 6],
-        facets_len: 0,
-        facets: [facet!(); 5],
+    match shape {
+        Shape::Nothing => Row {
+            shape,
+            len: 0,
+            kept,
+            facets_len: 0,
+            facets: [facet!(); 5],
+        },
+        Shape::Tetra => Row {
+            shape,
+            len: 4,
+            kept,
+            facets_len: 4,
+            facets: [
+                facet!(1 2 3),
+                facet!(0 2 3),
+                facet!(0 1 3),
+                facet!(0 1 2),
+                facet!(),
+            ],
+        },
+        Shape::Pyramid => Row {
+            shape,
+            len: 5,
+            kept,
+            facets_len: 5,
+            facets: [
+                facet!(1 2 3 4),
+                facet!(0 1 2),
+                facet!(0 2 3),
+                facet!(0 3 4),
+                facet!(0 4 1),
+            ],
+        },
+        Shape::Prism => Row {
+            shape,
+            len: 6,
+            kept,
+            facets_len: 5,
+            facets: [
+                facet!(0 1 2),
+                facet!(3 4 5),
+                facet!(0 1 4 3),
+                facet!(1 2 5 4),
+                facet!(2 0 3 5),
+            ],
+        },
     }
-}
-
-/// Four triangles, each without one node.
-fn tetra(a: Corner, b: Corner, c: Corner, d: Corner) -> Row
-    ensures { result ≡ tetra_row a b c d }
-{
-    Row {
-        shape: Shape::Tetra,
-        len: 4,
-        kept: [a, b, c, d, Corner::Whole(0), Corner::Whole(0)],
-        facets_len: 4,
-        facets: [
-            facet!(1 2 3),
-            facet!(0 2 3),
-            facet!(0 1 3),
-            facet!(0 1 2),
-            facet!(),
-        ],
-    }
-}
-
-/// The base `b c d e` as a ring, and the apex `a` with each side of it.
-fn pyramid(a: Corner, b: Corner, c: Corner, d: Corner, e: Corner) -> Row
-    ensures { result ≡ pyramid_row a b c d e }
-{
-    Row {
-        shape: Shape::Pyramid,
-        len: 5,
-        kept: [a, b, c, d, e, Corner::Whole(0)],
-        facets_len: 5,
-        facets: [
-            facet!(1 2 3 4),
-            facet!(0 1 2),
-            facet!(0 2 3),
-            facet!(0 3 4),
-            facet!(0 4 1),
-        ],
-    }
-}
-
-/// The triangles `a b c` and `d e f`, and a ring for each side of the one and the side across from it.
-fn prism(a: Corner, b: Corner, c: Corner, d: Corner, e: Corner, f: Corner) -> Row
-    ensures { result ≡ prism_row a b c d e f }
-{
-    Row {
-        shape: Shape::Prism,
-        len: 6,
-        kept: [a, b, c, d, e, f],
-        facets_len: 5,
-        facets: [
-            facet!(0 1 2),
-            facet!(3 4 5),
-            facet!(0 1 4 3),
-            facet!(1 2 5 4),
-            facet!(2 0 3 5),
-        ],
-    }
-}
-
-// The ten shapes, by the plus, zero and minus slots. Without a plus vertex nothing is kept.
-//   whole:    the faces are the facets
-//   tip:      what the cuts or the zero vertices leave of the tetrahedron at its one plus vertex
-//   pyramid:  the apex is the zero vertex; the base is the two plus vertices and their cuts, on the face without the apex
-//   wedge:    a triangle at each of two plus vertices, of the vertex and its two cuts
-//   frustum:  the triangle of the plus vertices, and that of their cuts to the one minus vertex
-macro_rules! row {
-    ([] $z:tt $m:tt) => { nothing() };
-    /* whole   */ ([$a:tt $b:tt $c:tt $d:tt] [] []) => { tetra(corner!($a), corner!($b), corner!($c), corner!($d)) };
-    /* whole   */ ([$a:tt $b:tt $c:tt] [$d:tt] []) => { tetra(corner!($a), corner!($b), corner!($c), corner!($d)) };
-    /* whole   */ ([$a:tt $b:tt] [$c:tt $d:tt] []) => { tetra(corner!($a), corner!($b), corner!($c), corner!($d)) };
-    /* whole   */ ([$a:tt] [$b:tt $c:tt $d:tt] []) => { tetra(corner!($a), corner!($b), corner!($c), corner!($d)) };
-    /* tip     */ ([$a:tt] [] [$m:tt $n:tt $o:tt]) => { tetra(corner!($a), corner!($a $m), corner!($a $n), corner!($a $o)) };
-    /* tip     */ ([$a:tt] [$z:tt] [$m:tt $n:tt]) => { tetra(corner!($a), corner!($z), corner!($a $m), corner!($a $n)) };
-    /* tip     */ ([$a:tt] [$y:tt $z:tt] [$m:tt]) => { tetra(corner!($a), corner!($y), corner!($z), corner!($a $m)) };
-    /* pyramid */ ([$a:tt $b:tt] [$z:tt] [$m:tt]) => { pyramid(corner!($z), corner!($a), corner!($b), corner!($b $m), corner!($a $m)) };
-    /* wedge   */ ([$a:tt $b:tt] [] [$m:tt $n:tt]) => { prism(corner!($a), corner!($a $m), corner!($a $n), corner!($b), corner!($b $m), corner!($b $n)) };
-    /* frustum */ ([$a:tt $b:tt $c:tt] [] [$m:tt]) => { prism(corner!($a), corner!($b), corner!($c), corner!($a $m), corner!($b $m), corner!($c $m)) };
-}
-
-// One arm for each sign of the first slot that is left; the slots met so far stand in three lists, by their signs.
-macro_rules! rows {
-    ($signs:ident [$($p:tt)*] [$($z:tt)*] [$($m:tt)*]) => { row!([$($p)*] [$($z)*] [$($m)*]) };
-    ($signs:ident [$($p:tt)*] [$($z:tt)*] [$($m:tt)*] $slot:tt $($rest:tt)*) => {
-        match $signs[$slot] {
-            Sign::Plus => rows!($signs [$($p)* $slot] [$($z)*] [$($m)*] $($rest)*),
-            Sign::Zero => rows!($signs [$($p)*] [$($z)* $slot] [$($m)*] $($rest)*),
-            Sign::Minus => rows!($signs [$($p)*] [$($z)*] [$($m)* $slot] $($rest)*),
-        }
-    };
-}
-
-/// The row of these signs of the four slots.
-///
-/// Its nodes are those that are kept, each once, and its facets are those of what is kept, each once;
-/// in a facet of four the ring places 0 and 2, and 1 and 3, are opposite.
-pub fn row_of(signs: [Sign; 4]) -> Row
-    ensures row { result ≡ row_by_signs signs }
-    ensures fits { IsTrue (row_fits signs result) }
-{
-    rows_by_slot(signs)
-}
-
-#[tactic(auto, unfolding(crate::specs::Rows::row_by_signs))]
-fn rows_by_slot(signs: [Sign; 4]) -> Row
-    ensures { result ≡ row_by_signs signs }
-{
-    rows!(signs [] [] [] 0 1 2 3)
 }
 
 /// The cases with these numbers of plus, zero and minus vertices.
@@ -191,46 +174,5 @@ impl<const P: u8, const Z: u8, const M: u8> Case<P, Z, M> {
         ensures shape { result.shape ≡ shape_by_counts P Z M }
     {
         row_of(signs)
-    }
-}
-
-#[cfg(test)]
-mod tests {
-    use super::*;
-    use crate::Sign::{Minus, Plus, Zero};
-
-    // How many of the 81 rows have a shape.
-    fn rows_with(shape: Shape) -> u32 {
-        let mut found: u32 = 0;
-        for a in [Minus, Zero, Plus] {
-            for b in [Minus, Zero, Plus] {
-                for c in [Minus, Zero, Plus] {
-                    for d in [Minus, Zero, Plus] {
-                        if row_of([a, b, c, d]).shape == shape {
-                            found = found.wrapping_add(1);
-                        }
-                    }
-                }
-            }
-        }
-        found
-    }
-
-    #[test]
-    fn shapes_are_counted(rt: HostRuntime) {
-        assert_eq!(rt; rows_with(Shape::Nothing), 16);
-        assert_eq!(rt; rows_with(Shape::Tetra), 43);
-        assert_eq!(rt; rows_with(Shape::Pyramid), 12);
-        assert_eq!(rt; rows_with(Shape::Prism), 10);
-    }
-
-    #[test]
-    fn a_wedge_by_its_counts(rt: HostRuntime) {
-        let row = Case::<2, 0, 2>::row([Plus, Minus, Plus, Minus]);
-        assert!(rt; row == row_of([Plus, Minus, Plus, Minus]));
-        assert_eq!(rt; row.shape, Shape::Prism);
-        assert_eq!(rt; row.kept[1], Corner::Cut(0, 1));
-        assert_eq!(rt; row.kept[4], Corner::Cut(1, 2));
-        assert_eq!(rt; row.facets[3].ring, [1, 2, 5, 4]);
     }
 }

@@ -10,6 +10,12 @@ ghost use Rattle.definitions.specs.States.{square_of};
 ///
 /// It is `|ga| / (|ga| + |gb|)` of the edge in 4096ths, rounded to the nearest, half up, so its distance
 /// from the lower end is the number itself, and from the upper end 4096 less the number.
+///
+/// ```rust
+/// assert_eq!(rt; cut(8, -6), Some(2341));
+/// assert_eq!(rt; cut(-6, 8), Some(1755));
+/// assert_eq!(rt; cut(8, 6), None);
+/// ```
 #[tactic(auto, unfolding(definitions::specs::Cuts::cut_number, definitions::specs::Cuts::cut_between))]
 pub fn cut(ga: i64, gb: i64) -> Option<u16>
     requires a { unsigned_abs ga ≤ 2 ^ 40 }
@@ -35,31 +41,4 @@ pub fn reach2(long: bool, t: u16) -> u32
 {
     let t = t as u32;
     if long { 4 * t * t } else { 3 * t * t }
-}
-
-#[cfg(test)]
-mod tests {
-    use super::*;
-
-    #[test]
-    fn cut_numbers(rt: HostRuntime) {
-        let rows = [
-            (8, -6, 2341),
-            (-6, 8, 1755),
-            (8, -8, 2048),
-            (8, -4, 2731),
-            (-4, 8, 1365),
-            (24, -8, 3072),
-            (8, -320008, 0),
-            (-160006, 8, 4096),
-            (-6400, 8000, 1820),
-        ];
-        for (a, b, k) in rows {
-            assert_eq!(rt; cut(a, b), Some(k));
-        }
-        assert_eq!(rt; cut(8, 6), None);
-        assert_eq!(rt; cut(8, 0), None);
-        assert_eq!(rt; reach2(true, 4096), 67108864);
-        assert_eq!(rt; reach2(false, 1755), 9240075);
-    }
 }

@@ -7,6 +7,8 @@ use st_base::Failed;
 use std::alloc::Global;
 
 /// The open input of a desk in memory, and where it is to fail.
+///
+/// The next byte is one of the bytes, or stands at their end.
 #[derive(Drop)]
 pub struct MemInput {
     pub is_open: bool,

@@ -10,6 +10,3 @@ mod steady;
 
 pub use mem::MemDesk;
 pub use steady::SteadyDesk;
-
-#[cfg(test)]
-mod tests;

@@ -12,6 +12,8 @@ use std::alloc::Global;
 ///
 /// A call on it fails where a switch says so, where an input is opened under a name that holds
 /// nothing, and where memory runs out. Each such failure is counted.
+///
+/// A read or a write moves at least one byte: what it may move at most is above 0.
 #[derive(Drop)]
 pub struct MemDesk {
     alloc: Global,
@@ -29,9 +31,15 @@ pub struct MemDesk {
 
 impl MemDesk {
     ghost use Rattle.desk_mem.specs.Meanings.{mem_state, mem_input, mem_ports, mem_tried, mem_held, port_part, SameSwitches, input_limit, output_limit, refuses_input, refuses_open, refuses_finish, most_at_once};
-    ghost use Rattle.desk_mem.specs.Parts.{port_state};
+    ghost use Rattle.desk_mem.specs.Parts.{names_of, port_state};
 
     /// A desk that holds no input, and that nothing makes fail.
+    ///
+    /// ```
+    /// let mut desk = MemDesk::new(alloc);
+    /// desk.put_input(b"a.mha", bytes)?;
+    /// let outcome = stuff(rt, alloc, &words, &mut desk, &OpenGate);
+    /// ```
     pub fn new(alloc: Global) -> MemDesk
         ensures start { IsStart (mem_input result) (mem_ports result) (mem_tried result) }
         ensures holds_none { (name : List ℕ) → mem_held result name ≡ None }
@@ -156,6 +164,13 @@ impl MemDesk {
         ensures { (mem_ports self.now port).text ≡ Some result.now }
     {
         self.port(port).text.as_slice()
+    }
+
+    /// The names with which files were opened, in order.
+    pub fn names(&self) -> &[Vec<u8>]
+        ensures { mem_tried self.now ≡ Some (names_of result.now) }
+    {
+        self.tried.as_slice()
     }
 
     /// How many calls on the input failed.

@@ -33,6 +33,8 @@ impl Length {
 
 /// A desk that gives the same bytes under every name, keeps only the length of each port's text,
 /// and never fails. It doesn't tell the names with which files were opened.
+///
+/// The next byte is one of the bytes, or stands at their end.
 #[derive(Drop)]
 pub struct SteadyDesk {
     bytes: Vec<u8>,
@@ -49,6 +51,12 @@ impl SteadyDesk {
     ghost use Rattle.desk_mem.specs.SteadyMeanings.{steady_input, steady_ports, steady_held, written_to};
 
     /// A desk that holds these bytes under every name.
+    ///
+    /// ```
+    /// let mut desk = SteadyDesk::new(bytes);
+    /// let outcome = stuff(rt, alloc, &words, &mut desk, &OpenGate);
+    /// let length = desk.written(Port::Report);
+    /// ```
     pub fn new(input: Vec<u8>) -> SteadyDesk
         ensures start { IsStart (steady_input result) (steady_ports result) None }
         ensures held { (name : List ℕ) → steady_held result name ≡ Some input.items }

@@ -1,11 +1,12 @@
-ghost use Rattle.std.specs.Prelude.{◌≡◌, ◌<◌, length, Ok, IfOk, IsErr, MatchOption, MatchResult};
+ghost use Rattle.std.specs.Prelude.{◌≡◌, ◌<◌, length, true, Ok, IfOk, IsErr, MatchOption, MatchResult};
+ghost use Rattle.std.specs.Fs.{new_options, with_read, with_write, with_create, with_truncate};
 ghost use Rattle.std.specs.Io.{ReadsAtMost, WritesAtMost};
 ghost use Rattle.std.specs.Io.KnownBytes.{ReadConsumes, WriteAppends};
 
+use crate::system::FileSystem;
 use st_base::Failed;
 use std::fs::OpenOptions;
 use std::io::{self, ErrorKind, Read, Write};
-use std::rt::Files;
 use std::str;
 
 /// How often a call is made that is interrupted each time: once, and 1,000 times again.
@@ -22,21 +23,51 @@ fn settled<T: Drop>(answer: io::Result<T>) -> Option<Result<T, Failed>>
     }
 }
 
-/// Opens the file of this name. A name that is not UTF-8 is refused.
-pub fn open_file<R: Files>(
-    files: &R,
-    options: &OpenOptions,
-    name: &[u8],
-) -> Result<R::File, Failed> {
+/// How an input is opened.
+fn for_input() -> OpenOptions
+    ensures { result ≡ with_read new_options true }
+{
+    let mut how = OpenOptions::new();
+    how.read(true);
+    how
+}
+
+/// How an output is opened: it is made, or emptied where it is there.
+fn for_output() -> OpenOptions
+    ensures { result ≡ with_truncate (with_create (with_write new_options true) true) true }
+{
+    let mut how = OpenOptions::new();
+    how.write(true).create(true).truncate(true);
+    how
+}
+
+/// Opens the file of this name in this way. A name that is not UTF-8 is refused.
+fn open_file<F: FileSystem>(files: &F, how: &OpenOptions, name: &[u8]) -> Result<F::File, Failed>
+    ensures { IfOk result (λ file. F.is_opened file how.now name.now) }
+{
     let Ok(path) = str::from_utf8(name) else {
         return Err(Failed);
     };
     for _ in 0..TRIES {
-        if let Some(done) = settled(options.open(files, path)) {
+        if let Some(done) = settled(files.open(how, path)) {
             return done;
         }
     }
     Err(Failed)
+}
+
+/// Opens the file of this name to read it.
+pub fn open_input<F: FileSystem>(files: &F, name: &[u8]) -> Result<F::File, Failed>
+    ensures { IfOk result (λ file. F.is_opened file (with_read new_options true) name.now) }
+{
+    open_file(files, &for_input(), name)
+}
+
+/// Makes the file of this name, or empties it, to write it.
+pub fn open_output<F: FileSystem>(files: &F, name: &[u8]) -> Result<F::File, Failed>
+    ensures { IfOk result (λ file. F.is_opened file (with_truncate (with_create (with_write new_options true) true) true) name.now) }
+{
+    open_file(files, &for_output(), name)
 }
 
 /// One read.

@@ -3,34 +3,39 @@ ghost use Rattle.st_base.specs.Desk.{IsStart};
 ghost use Rattle.st_base.specs.declared.Port.{Port};
 ghost use Rattle.desk_std.specs.Meanings.{by_port, untold_input, untold_port};
 
-use crate::calls::open_file;
+use crate::calls::{open_input, open_output};
 use crate::ends::End;
+use crate::system::FileSystem;
 use st_base::{Desk, Failed, Port};
-use std::fs::OpenOptions;
 use std::io::Write;
-use std::rt::Files;
 
 /// The real outside: files, a writer for Report, and one for Trouble.
 ///
 /// A call that is interrupted is made again, at most 1,000 times, and then fails. A write that takes
 /// none of its bytes fails, and so does a name that is not UTF-8. An output file is made or emptied
-/// when it is opened, flushed when its port is finished, and closed then. Each failure is counted,
-/// for the input or for its port. No bytes, texts or names are told.
+/// when it is opened, and flushed and closed when its port is finished, which fails where it can't be
+/// flushed. Each failure is counted, for the input or for its port. No bytes, texts or names are told.
 #[derive(Drop)]
-pub struct StdDesk<R: Files + Drop, O: Write + Drop, E: Write + Drop> {
-    files: R,
-    input: End<R::File>,
-    node: End<R::File>,
-    ele: End<R::File>,
+pub struct StdDesk<F: FileSystem + Drop, O: Write + Drop, E: Write + Drop> {
+    files: F,
+    input: End<F::File>,
+    node: End<F::File>,
+    ele: End<F::File>,
     report: End<O>,
     trouble: End<E>,
 }
 
-impl<R: Files + Drop, O: Write + Drop, E: Write + Drop> StdDesk<R, O, E> {
+impl<F: FileSystem + Drop, O: Write + Drop, E: Write + Drop> StdDesk<F, O, E> {
     /// A desk on which nothing was done yet.
-    pub fn new(files: R, report: O, trouble: E) -> Self
-        ensures { IsStart (⟦<StdDesk<R, O, E> as Desk>⟧.input result)
-            (⟦<StdDesk<R, O, E> as Desk>⟧.ports result) (⟦<StdDesk<R, O, E> as Desk>⟧.tried result) }
+    ///
+    /// ```
+    /// let files = System::new(&rt);
+    /// let mut desk = StdDesk::new(files, rt.stdout(), rt.stderr());
+    /// let outcome = stuff(&rt, alloc, &words, &mut desk, &OpenGate);
+    /// ```
+    pub fn new(files: F, report: O, trouble: E) -> Self
+        ensures { IsStart (⟦<StdDesk<F, O, E> as Desk>⟧.input result)
+            (⟦<StdDesk<F, O, E> as Desk>⟧.ports result) (⟦<StdDesk<F, O, E> as Desk>⟧.tried result) }
     {
         StdDesk {
             files,
@@ -43,7 +48,7 @@ impl<R: Files + Drop, O: Write + Drop, E: Write + Drop> StdDesk<R, O, E> {
     }
 }
 
-impl<R: Files + Drop, O: Write + Drop, E: Write + Drop> Desk for StdDesk<R, O, E> {
+impl<F: FileSystem + Drop, O: Write + Drop, E: Write + Drop> Desk for StdDesk<F, O, E> {
     ghost input = { λ desk. untold_input (is_some desk.input.file) desk.input.faults };
 
     ghost ports = { λ desk. by_port
@@ -57,7 +62,7 @@ impl<R: Files + Drop, O: Write + Drop, E: Write + Drop> Desk for StdDesk<R, O, E
     ghost held = { λ _ _. None };
 
     fn open_input(&mut self, name: &[u8]) -> Result<(), Failed> {
-        let opened = open_file(&self.files, OpenOptions::new().read(true), name);
+        let opened = open_input(&self.files, name);
         self.input.open(opened)
     }
 
@@ -66,9 +71,7 @@ impl<R: Files + Drop, O: Write + Drop, E: Write + Drop> Desk for StdDesk<R, O, E
     }
 
     fn open_output(&mut self, port: Port, name: &[u8]) -> Result<(), Failed> {
-        let mut options = OpenOptions::new();
-        options.write(true).create(true).truncate(true);
-        let opened = open_file(&self.files, &options, name);
+        let opened = open_output(&self.files, name);
         match port {
             Port::Node => self.node.open(opened),
             Port::Ele => self.ele.open(opened),
@@ -94,6 +97,3 @@ impl<R: Files + Drop, O: Write + Drop, E: Write + Drop> Desk for StdDesk<R, O, E
         }
     }
 }
-
-#[cfg(test)]
-mod tests;

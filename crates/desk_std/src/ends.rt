@@ -88,16 +88,16 @@ impl<F: Write + Drop> End<F> {
         self.counted(answer)
     }
 
-    /// Flushes and closes it.
+    /// Flushes it and lets it go, which closes a file.
     pub fn finish(&mut self) -> Result<(), Failed>
         requires { is_some self.old.file ≡ true }
         ensures closed { is_some self.new.file ≡ false }
         ensures cause { HasCause self.old.faults self.new.faults result }
     {
-        let Some(file) = &mut self.file else {
+        let Some(stream) = &mut self.file else {
             unreachable!()
         };
-        let answer = flush(file);
+        let answer = flush(stream);
         self.file = None;
         self.counted(answer)
     }

@@ -4,5 +4,7 @@
 mod calls;
 mod desk;
 mod ends;
+mod system;
 
 pub use desk::StdDesk;
+pub use system::{FileSystem, System};

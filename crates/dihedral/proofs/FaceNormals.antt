@@ -1,17 +1,16 @@
 -- The normals of the faces of a tetrahedron: they turn with their corners, and are not 0.
-use Rattle.std.proofs.Common.{◌≡◌, ℕ, zero, suc, ◌≤◌, refl, ap, ◌∙◌, arith, inl, inr, ◌⊎◌, List, [], ◌∷◌, ℤ, pos, negsuc, ◌*ℤ◌, ◌-ℤ◌, ◌<ℤ◌, ◌≤ℤ◌, unsigned_abs}
+use Rattle.std.proofs.Common.{◌≡◌, ℕ, zero, suc, ◌≤◌, refl, ap, ◌∙◌, arith, inl, inr, ◌⊎◌, [], ◌∷◌, ℤ, pos, negsuc, ◌*ℤ◌, ◌-ℤ◌, ◌<ℤ◌, ◌≤ℤ◌, unsigned_abs}
 use Rattle.std.proofs.Math.IntN.{◌+ℤ◌, neg_ℤ}
 use Rattle.std.proofs.lemmas.Int.{ints}
 use Rattle.definitions.specs.declared.Place.{Place}
 use Rattle.definitions.specs.Vectors.{minus, dot, det_of}
-use Rattle.exact.specs.Polynomials.{Expression, variable, plus, times, negate}
+use Rattle.exact.specs.Coordinates.{Coordinates, less_expression, difference, dot_expression, cross_expression, det_expression, first, second, third, fourth}
+use Rattle.exact.specs.Polynomials.{Expression, variable, times, negate}
 use Rattle.exact.proofs.Ring.{ring}
 use Rattle.exact.proofs.IntegerLaws.{zero_mul}
 use Rattle.exact.proofs.IntegerOrder.{less_or_at_most, sum_nonnegative, parts_zero}
+use Rattle.lattice_laws.proofs.Volumes.{all_coordinates}
 use Rattle.dihedral.specs.Fractions.{normal, opposite}
-
-abbrev less_expression : Expression → Expression → Expression
-less_expression a b = plus a (negate b)
 
 -- one coordinate of the normal of three places, from their other two coordinates
 abbrev minor_of : ℤ → ℤ → ℤ → ℤ → ℤ → ℤ → ℤ
@@ -36,46 +35,14 @@ pub normal-swapped : (p q r : Place) → normal p r q ≡ opposite (normal p q r
 normal-swapped p q r =
     λ i. record { x = swapped_minor p.y p.z q.y q.z r.y r.z i; y = swapped_minor p.z p.x q.z q.x r.z r.x i; z = swapped_minor p.x p.y q.x q.y r.x r.y i }
 
-record Coordinates : Type 0 where
-  x : Expression
-  y : Expression
-  z : Expression
-
-abbrev coordinates_from : ℕ → ℕ → ℕ → Coordinates
-coordinates_from a b c = record { x = variable a; y = variable b; z = variable c }
-
-abbrev difference : Coordinates → Coordinates → Coordinates
-difference p q = record { x = less_expression p.x q.x; y = less_expression p.y q.y; z = less_expression p.z q.z }
-
-abbrev dot_expression : Coordinates → Coordinates → Expression
-dot_expression p q = plus (plus (times p.x q.x) (times p.y q.y)) (times p.z q.z)
-
-abbrev cross_expression : Coordinates → Coordinates → Coordinates
-cross_expression p q = record { x = less_expression (times p.y q.z) (times p.z q.y); y = less_expression (times p.z q.x) (times p.x q.z); z = less_expression (times p.x q.y) (times p.y q.x) }
-
 abbrev normal_expression : Coordinates → Coordinates → Coordinates → Coordinates
 normal_expression p q r = cross_expression (difference q p) (difference r p)
-
-abbrev first : Coordinates
-first = coordinates_from 0 1 2
-
-abbrev second : Coordinates
-second = coordinates_from 3 4 5
-
-abbrev third : Coordinates
-third = coordinates_from 6 7 8
-
-abbrev fourth : Coordinates
-fourth = coordinates_from 9 10 11
 
 abbrev volume : Place → Place → Place → Place → ℤ
 volume a b c d = det_of (minus b a) (minus c a) (minus d a)
 
 abbrev volume_expression : Expression
-volume_expression = dot_expression (difference second first) (cross_expression (difference third first) (difference fourth first))
-
-abbrev all_coordinates : Place → Place → Place → Place → List ℤ
-all_coordinates a b c d = a.x ∷ a.y ∷ a.z ∷ b.x ∷ b.y ∷ b.z ∷ c.x ∷ c.y ∷ c.z ∷ d.x ∷ d.y ∷ d.z ∷ []
+volume_expression = det_expression first second third fourth
 
 -- each normal points away from the node that its face is opposite
 height_first : (a b c d : Place) → dot (normal b c d) (minus a b) ≡ neg_ℤ (volume a b c d)

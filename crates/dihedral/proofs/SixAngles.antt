@@ -1,5 +1,5 @@
 -- The six angles of a tetrahedron, one after another.
-use Rattle.std.proofs.Common.{◌≡◌, refl, arith, append_assoc, List, [], ◌∷◌, ◌++◌, ℕ, None}
+use Rattle.std.proofs.Common.{◌≡◌, refl, append_assoc, List, [], ◌∷◌, ◌++◌, ℕ, None}
 use Rattle.definitions.specs.declared.Place.{Place}
 use Rattle.definitions.specs.declared.Extreme.{Extreme}
 use Rattle.definitions.specs.Angles.{edge_cosine, extremes_of}

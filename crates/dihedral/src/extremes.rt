@@ -1,4 +1,4 @@
-ghost use Rattle.std.specs.Prelude.{◌≡◌, ◌++◌, List, All, Some, pos, ◌<ℤ◌};
+ghost use Rattle.std.specs.Prelude.{◌≡◌, ◌++◌, List, All, Some, None, IsSome, pos, ◌<ℤ◌};
 ghost use Rattle.std.specs.Option.{ForSome};
 ghost use Rattle.definitions.specs.declared.Extreme.{Extreme};
 ghost use Rattle.definitions.specs.Angles.{extremes_of, is_less};
@@ -19,6 +19,9 @@ pub fn fold(a: Option<Extremes>, b: Option<Extremes>) -> Option<Extremes>
     requires b { ForSome b AreFractions }
     ensures joined { (xs ys : List Extreme) → All IsAngle ys → a ≡ extremes_of xs → b ≡ extremes_of ys → result ≡ extremes_of (xs ++ ys) }
     ensures fractions { ForSome result AreFractions }
+    ensures first { b ≡ None → result ≡ a }
+    ensures second { a ≡ None → result ≡ b }
+    ensures some { IsSome a → IsSome result }
 {
     let Some(first) = a else {
         return b;

@@ -8,6 +8,12 @@
 //! Of one tetrahedron, `Faces` has the normals of its faces, and each angle before it is brought to lowest terms. Of many,
 //! `Remembering` first asks whether one of the same shape was taken; then `Bounded` asks whether bounds in 2048ths decide
 //! of all six angles; and where they do not, `Running` compares them with the extremes so far.
+//!
+//! ```rust
+//! let mut angles = Remembering::new();
+//! angles.take(places, 0, [0, 1, 2, 7]);
+//! let extremes = angles.found();
+//! ```
 #![tactic(auto)]
 
 mod angles;

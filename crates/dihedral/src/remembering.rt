@@ -20,6 +20,8 @@ use std::marker::Model;
 /// In most meshes most tetrahedra are whole lattice tetrahedra. Their six shapes are remembered once one of each was
 /// taken, and another of one of these costs a comparison; `star` has the shapes of the six tetrahedra at a vertex that
 /// was learned, so that all six cost one. Contracts see what [`Remembering::found`] gives.
+///
+/// To take a tetrahedron of a remembered shape changes nothing.
 #[derive(Drop)]
 pub struct Remembering {
     running: Bounded,

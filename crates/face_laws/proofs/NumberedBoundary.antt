@@ -12,14 +12,15 @@ use Rattle.definitions.specs.Soundness.{all_triangles, boundary, is_in, is_level
 use Rattle.lattice_laws.specs.Ascending.{Has}
 use Rattle.lattice_laws.proofs.Booleans.{both_true, either_true, and_true, or_left, or_right, same_tests}
 use Rattle.lattice_laws.proofs.Lists.{member_where}
-use Rattle.lattice_laws.proofs.Members.{from_filter, from_flat_map, from_map}
+use Rattle.lattice_laws.proofs.Members.{from_filter, from_flat_map, from_map, all_from_members}
 use Rattle.lattice_laws.proofs.Sublists.{has_at}
-use Rattle.triangle_laws.proofs.Sums.{total-is, total-map, total-every, bit, all_from_members}
+use Rattle.triangle_laws.proofs.Sums.{total-is, total-map, total-every, bit}
 use Rattle.node_laws.proofs.NumbersLeadBack.{numbers_lead_back}
 use Rattle.node_laws.proofs.Padding.{states_are_padded}
 use Rattle.node_laws.proofs.Standing.{keys_are_below}
 use Rattle.face_laws.specs.Laws.{BoundariesAreNumbered, MeshBoundaryIsLevel}
 use Rattle.face_laws.proofs.LevelBoundary.{at_level}
+use Rattle.node_laws.proofs.Pieces.{occurs_in}
 
 -- ---- lists that are mapped
 
@@ -90,17 +91,6 @@ module _ (number back : ℕ → ℕ) where
     boundary_numbered =
         ap (filter (λ t. tets_at_triangle (map (map number) tets) t == 1)) (all_triangles_mapped number tets)
         ∙ filter_mapped (map number) (λ t. tets_at_triangle (map (map number) tets) t == 1) (λ t. tets_at_triangle tets t == 1) (all_triangles tets) (λ t m. ap (λ n. n == 1) (times_numbered t m))
-
--- a node of a triangle occurs among the triangles
-in_itself : (t : List ℕ) (n : ℕ) → Has n t → list_any (λ k. k == n) t ≡ true
-in_itself [] n h = absurd h
-in_itself (m ∷ t) n (inl e) = or_left (m == n) _ (eq-eqb m n e)
-in_itself (m ∷ t) n (inr h) = or_right (m == n) _ (in_itself t n h)
-
-occurs_in : (ts : List (List ℕ)) (t : List ℕ) (n : ℕ) → Has t ts → Has n t → occurs ts n ≡ true
-occurs_in [] t n h k = absurd h
-occurs_in (u ∷ ts) t n (inl e) k = or_left (list_any (λ k. k == n) u) _ (in_itself u n (subst (Has n) (sym e) k))
-occurs_in (u ∷ ts) t n (inr h) k = or_right (list_any (λ k. k == n) u) _ (occurs_in ts t n h k)
 
 pub boundaries_are_numbered : BoundariesAreNumbered
 boundaries_are_numbered number back tets h = boundary_numbered number back tets (λ t m. all_from_members (λ n. back (number n) ≡ n) t (λ n k. h n (occurs_in (all_triangles tets) t n m k)))

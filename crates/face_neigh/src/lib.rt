@@ -3,7 +3,6 @@
 
 mod across;
 mod boundary;
-mod line;
 mod pairs;
 mod side;
 mod sides;

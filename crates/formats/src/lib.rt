@@ -60,6 +60,49 @@ pub enum HeadFault {
     NoMemory,
 }
 
+/// Why a mesh file was not read. `place` is the number of bytes before the first line with a fault.
+#[derive(Clone, Copy, Debug, PartialEq, Eq)]
+pub enum MeshFault {
+    /// The text has more than 1,073,741,824 bytes.
+    TooLong,
+    /// The line is not of its form, or is one too many.
+    BadLine { place: u64 },
+    /// The line is of its form, and a coordinate is no multiple of 1/8192 or is too large.
+    BadPlace { place: u64 },
+    /// The line is of its form, and names a node that is not there.
+    BadNode { place: u64 },
+    /// No line has a fault, and there are `got` lines where `wanted` should be.
+    EndsEarly { got: u64, wanted: u64 },
+    /// The input could not be read.
+    ReadFault,
+    /// Memory ran out.
+    NoMemory,
+}
+
+/// What the tetrahedra of finished files come to. They are named by their numbers in the file, and
+/// each verdict comes where none of those before it does.
+#[derive(Clone, Copy, Debug, PartialEq, Eq)]
+pub enum Verdict {
+    /// The first tetrahedron whose volume is not above zero.
+    NotPositive {
+        tet: u32,
+    },
+    /// The first that has a triangle which is in more than two.
+    Crowded {
+        tet: u32,
+    },
+    /// The first that has a triangle which another directs the same way.
+    Turned {
+        tet: u32,
+    },
+    /// None of these: how many nodes, tetrahedra and boundary triangles there are.
+    Sound {
+        nodes: u32,
+        tets: u32,
+        boundary: u32,
+    },
+}
+
 /// Where a text is written: the nodes, the tetrahedra, the report, or what went wrong.
 #[derive(Clone, Copy, Debug, PartialEq, Eq)]
 pub enum Port {

@@ -61,7 +61,7 @@ module _ (d : Dims) where
   layer_length h = ap length (layer_rows h) ∙ rows_length h (row_len d.ny h)
 
   -- layers in twos
-  even_layer : (h : ℕ) → h % 2 ≡ 0 → row_len d.ny h * row_len d.nx h ≡ even_len d
+  pub even_layer : (h : ℕ) → h % 2 ≡ 0 → row_len d.ny h * row_len d.nx h ≡ even_len d
   even_layer h e = (λ i. (d.ny + 2 - e i) * (d.nx + 2 - e i)) ∙ plain d.nx d.ny
     where
       plain : (x y : ℕ) → (y + 2 - 0) * (x + 2 - 0) ≡ (x + 2) * (y + 2)
@@ -73,7 +73,7 @@ module _ (d : Dims) where
           swap : (m n : ℕ) → m * n ≡ n * m
           swap m n = omega arith
 
-  odd_layer : (h : ℕ) → h % 2 ≡ 1 → row_len d.ny h * row_len d.nx h ≡ odd_len d
+  pub odd_layer : (h : ℕ) → h % 2 ≡ 1 → row_len d.ny h * row_len d.nx h ≡ odd_len d
   odd_layer h e = (λ i. (d.ny + 2 - e i) * (d.nx + 2 - e i)) ∙ plain d.nx d.ny
     where
       plain : (x y : ℕ) → (y + 2 - 1) * (x + 2 - 1) ≡ (x + 1) * (y + 1)

@@ -4,8 +4,9 @@ ghost use Rattle.definitions.specs.Lattice.{layers};
 ghost use Rattle.definitions.specs.Mesh.{ArePadded};
 ghost use Rattle.vertex_numbers.specs.Counts.{count_of_layer, layer_counts};
 
-use crate::fields::{SAMPLES, field_of};
-use bcc_lattice::{Layout, vertex_count, vertex_of};
+use crate::fields::field_of;
+use crate::rows::naturals;
+use bcc_lattice::{Layout, layers, vertex_count, vertex_of};
 use snap_rule::{Shares, States, all_states};
 use st_base::{Dims, Tally};
 use std::alloc::Global;
@@ -18,7 +19,19 @@ const ONE: Dims = Dims {
 };
 
 // How many nodes and tetrahedra each layer has where the vertex of id 17 is Plus, the only one of 35.
-const LAYERS: [(u32, u32, u64); 5] = [(0, 1, 4), (1, 4, 12), (2, 10, 8), (3, 0, 0), (4, 0, 0)];
+const LAYERS: &str = "0 -> 1 4
+1 -> 4 12
+2 -> 10 8
+3 -> 0 0
+4 -> 0 0";
+
+// How many nodes and tetrahedra stand before some layers then.
+const BEFORE: &str = "2 -> 5 16
+4 -> 15 24";
+
+// Keys and numbers of some nodes then.
+const NUMBERS: &str = "136 -> 7
+143 -> 14";
 
 // The keys of the nodes that there are then.
 const KEYS: [u32; 15] = [
@@ -30,7 +43,7 @@ const KEYS: [u32; 15] = [
 fn one_plus(alloc: Global) -> Option<States>
     ensures { IfSome result (λ s. ArePadded s.dims s.states) }
 {
-    let field = field_of(alloc, ONE, &SAMPLES[8..9])?;
+    let field = field_of(alloc, "1 1 1", "1")?;
     let shares = Shares::new(0, 0)?;
     all_states(alloc, &field, shares, &mut Tally::new()).ok()
 }
@@ -44,14 +57,12 @@ fn count_of(states: &States, h: u32) -> LayerCount
     layer_count(&mut source, states.dims(), h)
 }
 
-#[tactic(auto, using(lattice_counts::proofs::Sizes::nz_small))]
 fn counts_of(alloc: Global, states: &States) -> Option<Vec<LayerCount>>
     requires { ArePadded states.now.dims states.now.states }
     ensures { IfSome result (λ v. v.items ≡ layer_counts states.now.dims states.now.states) }
 {
-    let dims = states.dims();
     let mut counts = Vec::new(alloc);
-    for h in 0..2 * dims.nz + 3 {
+    for h in 0..layers(states.dims()) {
         if counts.push(count_of(states, h)).is_err() {
             return None;
         }
@@ -78,6 +89,18 @@ fn offsets_of(alloc: Global, states: &States) -> Option<Offsets>
     Offsets::new(alloc, counts).ok()
 }
 
+// How many nodes and tetrahedra stand before a layer.
+#[tactic(auto, using(vertex_numbers::proofs::LayerStarts::counts_len))]
+fn before(states: &States, offsets: &Offsets, h: u32) -> Option<(u32, u64)>
+    requires { offsets.now ≡ layer_counts states.now.dims states.now.states }
+{
+    if h < layers(states.dims()) {
+        Some((offsets.node_start(h), offsets.tet_start(h)))
+    } else {
+        None
+    }
+}
+
 #[test]
 fn nodes_of_one_plus_vertex(rt: HostRuntime) {
     let states = one_plus(rt.alloc()).expect(&rt, "states");
@@ -96,10 +119,18 @@ fn layers_of_one_plus_vertex(rt: HostRuntime) {
     let alloc = rt.alloc();
     let states = one_plus(alloc).expect(&rt, "states");
     let counts = counts_of(alloc, &states).expect(&rt, "counts");
-    for (count, (h, nodes, tets)) in counts.as_slice().iter().zip(LAYERS) {
-        assert_eq!(rt; *count, LayerCount { h, nodes, tets });
+    let mut layers = 0usize;
+    for (count, row) in counts.as_slice().iter().zip(LAYERS.lines()) {
+        let [h, nodes, tets] = naturals::<3>(row).expect(&rt, row);
+        let expected = LayerCount {
+            h,
+            nodes,
+            tets: u64::from(tets),
+        };
+        assert_eq!(rt; *count, expected, "at {row}");
+        layers = layers.wrapping_add(1);
     }
-    assert_eq!(rt; counts.len(), 5);
+    assert_eq!(rt; (layers, counts.len()), (5, 5));
 }
 
 #[test]
@@ -109,11 +140,10 @@ fn numbers_of_one_plus_vertex(rt: HostRuntime) {
     let offsets = offsets_of(alloc, &states).expect(&rt, "offsets");
     assert_eq!(rt; (offsets.nodes(), offsets.tets()), (15, 24));
     assert_eq!(rt; states.dims(), ONE);
-    for (h, nodes, tets) in [(2, 5, 16), (4, 15, 24)] {
-        assert_eq!(rt;
-            (offsets.node_start(h), offsets.tet_start(h)),
-            (nodes, tets)
-        );
+    for row in BEFORE.lines() {
+        let [h, nodes, tets] = naturals::<3>(row).expect(&rt, row);
+        let expected = Some((nodes, u64::from(tets)));
+        assert_eq!(rt; before(&states, &offsets, h), expected, "at {row}");
     }
     let starts = Starts::of_layer(alloc, &states, &offsets, 2).expect(&rt, "starts");
     let layout = Layout {
@@ -121,9 +151,10 @@ fn numbers_of_one_plus_vertex(rt: HostRuntime) {
         slab: 1,
     };
     let (first, end) = (layout.layer_start(2), layout.layer_start(3));
-    for (key, number) in [(136, 7), (143, 14)] {
-        assert!(rt; first <= key / 8 && key / 8 < end);
-        assert!(rt; starts.used(key));
-        assert_eq!(rt; starts.number(key), number);
+    for row in NUMBERS.lines() {
+        let [key, number] = naturals::<2>(row).expect(&rt, row);
+        assert!(rt; first <= key / 8 && key / 8 < end, "at {row}");
+        assert!(rt; starts.used(key), "at {row}");
+        assert_eq!(rt; starts.number(key), number, "at {row}");
     }
 }

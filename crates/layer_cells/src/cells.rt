@@ -20,6 +20,8 @@ use std::snapshot::Snapshot;
 
 /// A word for the state of each vertex, 0 until it is set, and a flag for each layer. Threads share it by
 /// reference.
+///
+/// There are as many words, and as much room for closing them, as there are vertices and layers.
 #[derive(Drop)]
 pub struct Cells {
     table: Table<u8, View, Key, SetOnce, Global>,
@@ -41,6 +43,8 @@ impl Model for Cells {
 
 /// The right of one thread to make layers and to read those that are made. Of what it knows only the sizes are
 /// there when the program runs.
+///
+/// Its sizes are those of the field that the cells are of.
 #[derive(Drop)]
 pub struct CellSeat {
     seat: Seat<u8, View>,

@@ -7,6 +7,15 @@
 //! raise the flag. Several seats may make the same layer: a word is set by whoever comes first, always to the
 //! same code. Once one seat knows all layers, closing the cells gives the [`Published`] states. Nothing here
 //! waits, and no call but `Cells::new` takes memory.
+//!
+//! ```rust
+//! let (cells, mut seat) = Cells::new(alloc, layout, &field, shares)?;
+//! if !cells.look(&mut seat, 0) {
+//!     put_layer(&cells, &mut seat, 0); // each vertex of layer 0
+//!     cells.raise(&mut seat, 0);
+//! }
+//! let state = cells.read(&mut seat, vertex);
+//! ```
 #![tactic(auto)]
 
 mod cells;

@@ -22,10 +22,10 @@ use Rattle.node_laws.specs.Laws.{StandsAbove}
 use Rattle.node_laws.proofs.Layers.{all_start, next_start}
 use Rattle.node_laws.proofs.Reach.{pieces_use_near_layers}
 use Rattle.node_laws.proofs.Standing.{keys_are_below}
-use Rattle.vertex_numbers.specs.Numbering.{Numbering, used_in}
+use Rattle.vertex_numbers.specs.Numbering.{Numbering, NumbersIds, NumbersMesh, used_in}
 use Rattle.vertex_numbers.proofs.LayerStarts.{starts_rise}
 use Rattle.mesh_lists.specs.Layers.{HoldLayers, NumbersLayers}
-use Rattle.mesh_lists.specs.Parts.{keys_of_vertex, NumbersMesh}
+use Rattle.mesh_lists.specs.Parts.{keys_of_vertex}
 use Rattle.mesh_lists.proofs.Numberings.{same_used}
 
 -- what is in a part is in the whole
@@ -123,21 +123,22 @@ layer_used d ss v n m h inside e =
     let r = own_held d ss v n m h inside e in
     same_used d ss n m h.used r.0 r.1
 
--- a numbering of all nodes is one of the nodes of any layers
-pub all_layers : (d : Dims) (ss : List State) (h : ℕ) (n : Numbering) → NumbersMesh d ss n → NumbersLayers d ss h n
-all_layers d ss h n m = record {
-  hold = record {
-    low = subst (λ (i : ℕ). i ≤ layer_start d h) (sym m.first) (omega arith);
-    high =
-        (let r = starts_rise d (min (h + 3) (layers d)) (layers d) (capped (h + 3) (layers d)) (omega arith) in
-        last (layer_start d (min (h + 3) (layers d))) (layer_start d (layers d)) (length (vertices d)) n.first n.len r (all_start d) m.first m.len);
-  };
+-- a numbering of the nodes of ids that hold some layers is one of the nodes of these
+pub numbers_layers : (d : Dims) (ss : List State) (h a b : ℕ) (n : Numbering) → NumbersIds d ss a b n → HoldLayers d h a b → NumbersLayers d ss h n
+numbers_layers d ss h a b n m hold = record {
+  hold = subst (λ (i : ℕ). HoldLayers d h i (n.first + n.len)) (sym m.first) (subst (λ (i : ℕ). HoldLayers d h a i) (sym m.end) hold);
   used = m.used;
   number = m.number;
 }
+
+-- and one of all nodes is so for any layers
+pub all_layers : (d : Dims) (ss : List State) (h : ℕ) (n : Numbering) → NumbersMesh d ss n → NumbersLayers d ss h n
+all_layers d ss h n m =
+    numbers_layers d ss h 0 (length (vertices d)) n m
+    (record {
+      low = omega arith;
+      high = subst (λ (l : ℕ). layer_start d (min (h + 3) (layers d)) ≤ l) (all_start d) (starts_rise d (min (h + 3) (layers d)) (layers d) (capped (h + 3) (layers d)) (omega arith));
+    })
   where
     capped : (m l : ℕ) → min m l ≤ l
     capped m l = omega arith
-
-    last : (s t l f n : ℕ) → s ≤ t → t ≡ l → f ≡ 0 → n ≡ l → s ≤ f + n
-    last s t l f n a b c e = omega arith

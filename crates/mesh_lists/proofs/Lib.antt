@@ -1,5 +1,6 @@
 pub mod Results
-pub mod NextVertex
+pub mod Walks
+pub mod NumberedLists
 pub mod Numberings
 pub mod NodePlaces
 pub mod Layers

@@ -1,8 +1,8 @@
 -- The extremes of the angles of a mesh, tetrahedron by tetrahedron.
-use Rattle.std.proofs.Common.{◌≡◌, ℕ, ◌+◌, ◌<◌, ◌≤◌, suc, refl, sym, ◌∙◌, ap, subst, arith, List, [], ◌∷◌, ◌++◌, length, take, get_or, Option, None, append_assoc, append-nil}
+use Rattle.std.proofs.Common.{◌≡◌, ℕ, ◌+◌, ◌<◌, ◌≤◌, refl, sym, ◌∙◌, ap, subst, arith, List, [], ◌∷◌, ◌++◌, length, take, get_or, Option, None}
 use Rattle.std.specs.Prelude.{All, flat_map}
 use Rattle.std.specs.List.{enumerate_from}
-use Rattle.std.proofs.lemmas.List.{length-take, take_all, take_more}
+use Rattle.std.proofs.lemmas.List.{take_all}
 use Rattle.definitions.specs.declared.Extreme.{Extreme}
 use Rattle.definitions.specs.declared.Extremes.{Extremes}
 use Rattle.definitions.specs.declared.Place.{Place}
@@ -13,19 +13,7 @@ use Rattle.definitions.specs.Soundness.{IsPositive}
 use Rattle.mesh_texts.specs.Report.{mesh_extremes}
 use Rattle.angle_laws.specs.Bounds.{BoundsAngles}
 use Rattle.angle_laws.proofs.MeshBounds.{mesh_is_bounded}
-
--- of lists that are made of numbered elements
-numbered_append : {X Y : Type 0} (f : ℕ × X → List Y) (from : ℕ) (xs ys : List X) → flat_map f (enumerate_from from (xs ++ ys)) ≡ flat_map f (enumerate_from from xs) ++ flat_map f (enumerate_from (from + length xs) ys)
-numbered_append f from [] ys = let e : from + 0 ≡ from = omega arith in rw e refl
-numbered_append f from (x ∷ xs) ys =
-    let e : from + suc (length xs) ≡ from + 1 + length xs = omega arith in
-    rw (e, numbered_append f (from + 1) xs ys) (sym (append_assoc (f (from, x)) (flat_map f (enumerate_from (from + 1) xs)) (flat_map f (enumerate_from (from + 1 + length xs) ys))))
-
-numbered_more : {X Y : Type 0} (f : ℕ × X → List Y) (i : ℕ) (xs : List X) (d : X) → i < length xs → flat_map f (enumerate_from 0 (take (i + 1) xs)) ≡ flat_map f (enumerate_from 0 (take i xs)) ++ f (i, get_or xs i d)
-numbered_more f i xs d within =
-    let more = take_more xs i d within in
-    let count : 0 + length (take i xs) ≡ i = omega (arith, length-take i xs) in
-    rw (more, numbered_append f 0 (take i xs) (get_or xs i d ∷ []), count, append-nil)
+use Rattle.mesh_lists.proofs.NumberedLists.{numbered_more}
 
 -- no angle yet
 pub none_told : (f : ℕ × List ℕ → List Extreme) (tets : List (List ℕ)) → None ≡ extremes_of (flat_map f (enumerate_from 0 (take 0 tets)))
@@ -36,7 +24,7 @@ none_told f (t ∷ tets) = refl
 -- those of one more tetrahedron
 pub one_more : (f : ℕ × List ℕ → List Extreme) (tets : List (List ℕ)) (i : ℕ) (found : Option Extremes) → i < length tets → found ≡ extremes_of (flat_map f (enumerate_from 0 (take i tets)) ++ f (i, get_or tets i [])) →
     found ≡ extremes_of (flat_map f (enumerate_from 0 (take (i + 1) tets)))
-one_more f tets i found lt e = e ∙ ap extremes_of (sym (numbered_more f i tets [] lt))
+one_more f tets i found lt e = let z : i ≡ 0 + i = omega arith in e ∙ ap (λ n. extremes_of (flat_map f (enumerate_from 0 (take i tets)) ++ f (n, get_or tets i []))) z ∙ ap extremes_of (sym (numbered_more f 0 i tets [] lt))
 
 -- the same, where the list is told by another name
 pub told_by : (f : ℕ × List ℕ → List Extreme) (tets told : List (List ℕ)) (i : ℕ) (found : Option Extremes) → told ≡ tets → found ≡ extremes_of (flat_map f (enumerate_from 0 (take i tets)) ++ f (i, get_or told i [])) →

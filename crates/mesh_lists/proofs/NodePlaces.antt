@@ -1,15 +1,17 @@
 -- Where the nodes of a vertex stand, and the list of nodes with one more.
-use Rattle.std.proofs.Common.{◌≡◌, ℕ, ◌+◌, ◌*◌, ◌/◌, ◌%◌, ◌<◌, ◌≤◌, ◌==◌, arith, refl, sym, ◌∙◌, ap, Bool, true, false, List, [], ◌∷◌, ◌++◌, map, append_assoc}
+use Rattle.std.proofs.Common.{◌≡◌, ℕ, ◌+◌, ◌-◌, ◌*◌, ◌/◌, ◌%◌, ◌<◌, ◌≤◌, ◌==◌, arith, refl, sym, ◌∙◌, ap, Bool, true, false, List, [], ◌∷◌, ◌++◌, map, length, append_assoc}
 use Rattle.std.specs.Prelude.{if◌then◌else◌, filter}
 use Rattle.std.specs.List.{range_with_len}
 use Rattle.std.proofs.lemmas.Bool.Decides.{nat_tests}
 use Rattle.std.proofs.lemmas.List.{map-append}
+use Rattle.definitions.specs.declared.Dims.{Dims}
 use Rattle.definitions.specs.declared.Vertex.{Vertex}
 use Rattle.definitions.specs.declared.State.{State}
-use Rattle.definitions.specs.Lattice.{vertex_at}
+use Rattle.definitions.specs.Lattice.{vertex_at, vertices}
 use Rattle.definitions.specs.Values.{Field}
 use Rattle.definitions.specs.Places.{cut_place, state_place}
-use Rattle.definitions.specs.Mesh.{edge_cut, node_place, state_at}
+use Rattle.definitions.specs.Mesh.{all_pieces, edge_cut, node_keys, node_place, occurs, state_at}
+use Rattle.mesh_lists.specs.Parts.{keys_of_ids}
 use Rattle.node_laws.proofs.Ranks.{filter_split}
 
 key_vertex : (n dir : ℕ) → dir < 8 → (8 * n + dir) / 8 ≡ n
@@ -47,15 +49,29 @@ keys_more f p a n xs ys zs e g =
     g ∙ ap (λ l. l ++ (if p (a + n) then f (a + n) ∷ [] else [])) e ∙ append_assoc xs (map f (filter p (range_with_len a n))) (if p (a + n) then f (a + n) ∷ [] else [])
     ∙ ap (λ l. xs ++ l) (ap (λ l. map f (filter p (range_with_len a n)) ++ l) (sym (map_one f (p (a + n)) (a + n))) ∙ sym (map-append f (filter p (range_with_len a n)) (filter p (range_with_len (a + n) 1))) ∙ ap (map f) (sym (filter_split p a n 1)))
 
--- the keys of one more vertex
-pub vertices_more : {X : Type 0} (f : ℕ → X) (p : ℕ → Bool) (n : ℕ) (ys zs : List X) → ys ≡ map f (filter p (range_with_len 0 (8 * n))) → zs ≡ ys ++ map f (filter p (range_with_len (8 * n) 8)) →
-    zs ≡ map f (filter p (range_with_len 0 (8 * (n + 1))))
-vertices_more f p n ys zs e g =
-    g ∙ ap (λ l. l ++ map f (filter p (range_with_len (8 * n) 8))) e ∙ sym (map-append f (filter p (range_with_len 0 (8 * n))) (filter p (range_with_len (8 * n) 8)))
-    ∙ ap (map f) (ap (λ m. filter p (range_with_len 0 (8 * n)) ++ filter p (range_with_len m 8)) (from_zero (8 * n)) ∙ sym (filter_split p 0 (8 * n) 8) ∙ ap (λ m. filter p (range_with_len 0 m)) (next n))
-  where
-    from_zero : (m : ℕ) → m ≡ 0 + m
-    from_zero m = omega arith
+-- ---- the keys of the nodes of some ids
 
-    next : (n : ℕ) → 8 * n + 8 ≡ 8 * (n + 1)
-    next n = omega arith
+module _ (d : Dims) (ss : List State) where
+  abbrev occ : ℕ → Bool
+  occ = occurs (all_pieces d ss)
+
+  pub keys_of_one : (id n : ℕ) → n ≡ 8 → filter occ (range_with_len (8 * id) n) ≡ keys_of_ids d ss id 1
+  unfolding keys_of_ids
+  keys_of_one id n e = ap (λ m. filter occ (range_with_len (8 * id) m)) (e ∙ (let f : 8 ≡ 8 * 1 = omega arith in f))
+
+  pub keys_of_none : (id : ℕ) → [] ≡ keys_of_ids d ss id (id - id)
+  unfolding keys_of_ids
+  keys_of_none id = sym (ap (λ m. filter occ (range_with_len (8 * id) m)) (let e : 8 * (id - id) ≡ 0 = omega arith in e))
+
+  -- one id more
+  pub keys_of_more : (a n : ℕ) → a ≤ n → keys_of_ids d ss a (n - a) ++ keys_of_ids d ss n 1 ≡ keys_of_ids d ss a (n + 1 - a)
+  unfolding keys_of_ids
+  keys_of_more a n le =
+      ap (λ m. filter occ (range_with_len (8 * a) (8 * (n - a))) ++ filter occ (range_with_len m (8 * 1))) (let e : 8 * n ≡ 8 * a + 8 * (n - a) = omega arith in e)
+      ∙ sym (filter_split occ (8 * a) (8 * (n - a)) (8 * 1))
+      ∙ ap (λ m. filter occ (range_with_len (8 * a) m)) (let e : 8 * (n - a) + 8 * 1 ≡ 8 * (n + 1 - a) = omega arith in e)
+
+  -- all of them
+  pub keys_of_all : (n : ℕ) → n ≡ length (vertices d) → keys_of_ids d ss 0 (n - 0) ≡ node_keys d ss
+  unfolding keys_of_ids node_keys
+  keys_of_all n e = ap (λ m. filter occ (range_with_len 0 (8 * m))) ((let z : n - 0 ≡ n = omega arith in z) ∙ e)

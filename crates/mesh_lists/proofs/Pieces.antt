@@ -20,7 +20,7 @@ use Rattle.definitions.specs.Mesh.{ArePadded, all_pieces, node_keys, number_of, 
 use Rattle.lattice_laws.specs.Ascending.{Has}
 use Rattle.lattice_laws.proofs.Sublists.{all_from_place}
 use Rattle.lattice_laws.proofs.Vertices.{vertex_at-id}
-use Rattle.vertex_numbers.specs.Numbering.{Holds, Numbering, number_in}
+use Rattle.vertex_numbers.specs.Numbering.{HoldsKey, Numbering, number_in}
 use Rattle.mesh_lists.specs.Layers.{NumbersLayers}
 use Rattle.mesh_lists.proofs.Layers.{held}
 
@@ -35,13 +35,13 @@ four_mapped f (x ∷ y ∷ z ∷ w ∷ u ∷ us) a b c d len p q r s = absurd (o
 
 -- what a key that occurs has
 pub record HasNumber (d : Dims) (ss : List State) (n : Numbering) (key : ℕ) : Type 0 where
-  pub here : Holds n key
+  pub here : HoldsKey n key
   pub number : number_in n key ≡ number_of (node_keys d ss) key
 
 has_number : (d : Dims) (ss : List State) (n : Numbering) (v : Vertex) (tet : List Vertex) (key : ℕ) → ArePadded d ss → NumbersLayers d ss v.h n → InDomain d v → Has tet (tets_from d v) → occurs (tet_pieces d ss tet) key ≡ true → HasNumber d ss n key
 has_number d ss n v tet key padded h inside m o =
     let k = held d ss padded v tet key n.first (n.first + n.len) inside m h.hold o in
-    let here : Holds n key = record { low = k.1.0; high = k.1.1 } in
+    let here : HoldsKey n key = record { low = k.1.0; high = k.1.1 } in
     record { here = here; number = h.number key here k.0 }
 
 numbers_same : (f g : ℕ → ℕ) (keys : List ℕ) → AllByRecursion (λ key. f key ≡ g key) keys → map f keys ≡ map g keys
@@ -55,7 +55,7 @@ module _ (d : Dims) (ss : List State) (n : Numbering) (padded : ArePadded d ss) 
       let key = get_or (get_or (tet_pieces d ss tet) m e) k z in
       list_any_at (list_any (λ j. j == key)) (tet_pieces d ss tet) m e lt (list_any_at (λ j. j == key) (get_or (tet_pieces d ss tet) m e) k z kt (eq-eqb key key refl))
 
-  pub piece_is_numbered : All (Holds n) (get_or (tet_pieces d ss tet) m e)
+  pub piece_is_numbered : All (HoldsKey n) (get_or (tet_pieces d ss tet) m e)
   piece_is_numbered = λ k z kt. (has_number d ss n v tet (get_or (get_or (tet_pieces d ss tet) m e) k z) padded h inside t (occurs_in_piece k z kt)).here
 
   pub piece_numbers : map (number_in n) (get_or (tet_pieces d ss tet) m e) ≡ map (number_of (node_keys d ss)) (get_or (tet_pieces d ss tet) m e)

@@ -1,5 +1,5 @@
 -- How many nodes and tetrahedra there are: by layers together, and at most eight and eighteen a vertex.
-use Rattle.std.proofs.Common.{◌≡◌, ℕ, suc, ◌+◌, ◌*◌, ◌/◌, ◌%◌, ◌^◌, ◌<◌, ◌≤◌, arith, refl, sym, ◌∙◌, ap, subst, inl, inr, Bool, true, not, nat_le, List, [], ◌∷◌, ◌++◌, map, length, length-append, Option, Some, None}
+use Rattle.std.proofs.Common.{◌≡◌, ℕ, suc, ◌+◌, ◌*◌, ◌^◌, ◌<◌, ◌≤◌, arith, refl, sym, ◌∙◌, ap, subst, inl, inr, Bool, true, not, nat_le, List, [], ◌∷◌, ◌++◌, map, length, length-append, Option, Some, None}
 use Rattle.std.specs.Prelude.{filter, filter_map, flat_map, sum, sum_by}
 use Rattle.std.specs.List.{cons_option, range_with_len}
 use Rattle.std.proofs.lemmas.List.{length-map}
@@ -17,8 +17,6 @@ use Rattle.definitions.specs.Mesh.{all_pieces, layer_pieces, node_keys, occurs, 
 use Rattle.definitions.specs.States.{sign_of_state}
 use Rattle.definitions.specs.Stencils.{facets, kept}
 use Rattle.definitions.specs.Tetrahedra.{IsLatticeTet, lattice_tets, tets_from}
-use Rattle.lattice_counts.specs.Counts.{even_len, odd_len}
-use Rattle.lattice_counts.proofs.Ranks.{start}
 use Rattle.lattice_laws.specs.Ascending.{Has}
 use Rattle.lattice_laws.specs.FiniteTests.{every_case}
 use Rattle.lattice_laws.proofs.FiniteTests.{each_case}
@@ -29,8 +27,7 @@ use Rattle.lattice_laws.proofs.TetrahedraFromLowest.{adjacent, all_of, tets_by_t
 use Rattle.stencil_laws.specs.Cases.{case_pieces}
 use Rattle.node_laws.proofs.Layers.{all_start, counts_below}
 use Rattle.node_laws.proofs.Pieces.{piece_counts_by_signs, pieces_join}
-use Rattle.vertex_numbers.specs.Counts.{layer_counts}
-use Rattle.mesh_lists.specs.Parts.{count_of_layer}
+use Rattle.vertex_numbers.specs.Counts.{count_of_layer, layer_counts}
 
 -- ---- nodes
 
@@ -133,9 +130,3 @@ tets_together d ss few =
   where
     bound : (t n v : ℕ) → t ≡ n → n ≤ 18 * v → v ≤ 2 ^ 27 → t < 2 ^ 64
     bound t n v e h k = omega arith
-
-pub no_layers : (d : Dims) → layer_start d 0 ≡ 0
-no_layers d = start d 0 (omega arith) ∙ none (even_len d) (odd_len d)
-  where
-    none : (e o : ℕ) → 0 / 2 * (e + o) + 0 % 2 * e ≡ 0
-    none e o = omega arith

@@ -29,7 +29,7 @@ use Rattle.stencils.proofs.FramesOfKinds.{frame_at, frame_fits}
 use Rattle.vertex_numbers.specs.Around.{has_plus_there, is_node, signs_towards}
 use Rattle.vertex_numbers.specs.declared.Later.{Later}
 use Rattle.vertex_numbers.specs.Later.{AreBelow}
-use Rattle.vertex_numbers.specs.Numbering.{Holds, Numbering, number_in}
+use Rattle.vertex_numbers.specs.Numbering.{HoldsKey, Numbering, number_in}
 use Rattle.vertex_numbers.proofs.NodesTold.{node_occurs}
 use Rattle.mesh_lists.specs.Layers.{AreFrom, NumbersLayers}
 use Rattle.mesh_lists.specs.Parts.{AreNumbers, IsWhole, numbered_from, whole_tets}
@@ -191,7 +191,7 @@ module _ (d : Dims) (ss : List State) (padded : ArePadded d ss) (n : Numbering) 
   plus_number : (w : Vertex) (m number : ℕ) → InDomain d w → g ≤ w.h → w.h ≤ g + 2 → id d w ≡ m → sign_of_state (state_at ss m) ≡ Plus → number ≡ number_in n (8 * m) → number_of (node_keys d ss) (8 * id d w) ≡ number
   plus_number w m number inside low high e p q =
       let r = vertex_held d g n.first (n.first + n.len) w h.hold inside low high in
-      let here : Holds n (8 * id d w) = record { low = subst (λ (i : ℕ). n.first ≤ i) (eighth (id d w)) r.0; high = subst (λ (i : ℕ). i < n.first + n.len) (eighth (id d w)) r.1 } in
+      let here : HoldsKey n (8 * id d w) = record { low = subst (λ (i : ℕ). n.first ≤ i) (eighth (id d w)) r.0; high = subst (λ (i : ℕ). i < n.first + n.len) (eighth (id d w)) r.1 } in
       sym (q ∙ ap (λ i. number_in n (8 * i)) (sym e) ∙ h.number (8 * id d w) here (plus_occurs w inside (ap (λ i. sign_of_state (state_at ss i)) e ∙ p)))
     where
       eighth : (i : ℕ) → i ≡ 8 * i / 8

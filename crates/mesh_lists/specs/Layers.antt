@@ -1,27 +1,22 @@
 -- Numberings of the nodes of a layer and of the two above it: those of the tetrahedra whose lowest vertices the layer has.
-use Rattle.std.specs.Prelude.{◌≡◌, ℕ, ◌+◌, ◌≤◌, true, List, min}
+use Rattle.std.specs.Prelude.{ℕ, ◌+◌, ◌≤◌, List, min}
 use Rattle.definitions.specs.declared.Dims.{Dims}
 use Rattle.definitions.specs.declared.State.{State}
 use Rattle.definitions.specs.Lattice.{layers}
 use Rattle.definitions.specs.Layout.{layer_start}
-use Rattle.definitions.specs.Mesh.{all_pieces, node_keys, number_of, occurs}
 use Rattle.vertex_numbers.specs.declared.Later.{Later}
-use Rattle.vertex_numbers.specs.Numbering.{Holds, Numbering, number_in, used_in}
+use Rattle.vertex_numbers.specs.Numbering.{Numbering, TellsNumbers, TellsUsed}
 
 -- the ids from a on and before b hold layer h and the two above it, where they exist
 pub record HoldLayers (d : Dims) (h a b : ℕ) : Type 0 where
   pub low : a ≤ layer_start d h
   pub high : layer_start d (min (h + 3) (layers d)) ≤ b
 
--- which nodes a numbering says that occur
-abbrev pub TellsUsed : Dims → List State → Numbering → Type 0
-TellsUsed d ss n = (key : ℕ) → Holds n key → used_in n key ≡ occurs (all_pieces d ss) key
-
 -- a numbering of their nodes
 pub record NumbersLayers (d : Dims) (ss : List State) (h : ℕ) (n : Numbering) : Type 0 where
   pub hold : HoldLayers d h n.first (n.first + n.len)
   pub used : TellsUsed d ss n
-  pub number : (key : ℕ) → Holds n key → occurs (all_pieces d ss) key ≡ true → number_in n key ≡ number_of (node_keys d ss) key
+  pub number : TellsNumbers d ss n
 
 -- the ids are n or greater
 pub record AreFrom (n : ℕ) (l : Later) : Type 0 where

@@ -1,5 +1,5 @@
 -- Parts of the mesh: the nodes of a vertex, and pieces by the numbers of their nodes.
-use Rattle.std.specs.Prelude.{◌≡◌, ℕ, ◌*◌, true, List, [], ◌∷◌, filter, flat_map, length, map}
+use Rattle.std.specs.Prelude.{◌≡◌, ℕ, ◌*◌, List, [], ◌∷◌, filter, flat_map, length, map}
 use Rattle.std.specs.List.{range_with_len}
 use Rattle.definitions.specs.declared.Dims.{Dims}
 use Rattle.definitions.specs.declared.Vertex.{Vertex}
@@ -8,11 +8,10 @@ use Rattle.definitions.specs.declared.State.{State}
 use Rattle.definitions.specs.Lattice.{id, vertices}
 use Rattle.definitions.specs.Values.{Field}
 use Rattle.definitions.specs.Tetrahedra.{tets_from}
-use Rattle.definitions.specs.Mesh.{Mesh, all_pieces, layer_node_keys, layer_pieces, node_keys, node_place, number_of, occurs, tet_pieces}
-use Rattle.vertex_numbers.specs.declared.LayerCount.{LayerCount}
+use Rattle.definitions.specs.Mesh.{Mesh, all_pieces, node_keys, node_place, number_of, occurs, tet_pieces}
 use Rattle.vertex_numbers.specs.declared.Later.{Later}
 use Rattle.vertex_numbers.specs.Later.{AreBelow, AreLater, HaveSign}
-use Rattle.vertex_numbers.specs.Numbering.{Holds, Numbering, number_in, used_in}
+use Rattle.vertex_numbers.specs.Numbering.{Numbering, number_in}
 
 -- the keys of a vertex: of itself and of the cuts on its edges upwards
 abbrev pub keys_of_vertex : ℕ → List ℕ
@@ -21,6 +20,10 @@ keys_of_vertex n = range_with_len (8 * n) 8
 -- those that occur
 abbrev pub keys_at : Dims → List State → ℕ → List ℕ
 keys_at d ss n = filter (occurs (all_pieces d ss)) (keys_of_vertex n)
+
+-- those of the vertices of n ids from a on
+unfoldable pub keys_of_ids : Dims → List State → ℕ → ℕ → List ℕ
+keys_of_ids d ss a n = filter (occurs (all_pieces d ss)) (range_with_len (8 * a) (8 * n))
 
 -- pieces by the numbers of their nodes
 abbrev pub numbered : Dims → List State → List (List ℕ) → List (List ℕ)
@@ -32,17 +35,6 @@ numbered_in d ss tet = numbered d ss (tet_pieces d ss tet)
 
 abbrev pub numbered_from : Dims → List State → Vertex → List (List ℕ)
 numbered_from d ss v = numbered d ss (flat_map (tet_pieces d ss) (tets_from d v))
-
--- a numbering of all nodes of the mesh
-pub record NumbersMesh (d : Dims) (ss : List State) (n : Numbering) : Type 0 where
-  pub first : n.first ≡ 0
-  pub len : n.len ≡ length (vertices d)
-  pub used : (key : ℕ) → Holds n key → used_in n key ≡ occurs (all_pieces d ss) key
-  pub number : (key : ℕ) → Holds n key → occurs (all_pieces d ss) key ≡ true → number_in n key ≡ number_of (node_keys d ss) key
-
--- what layer h has
-abbrev pub count_of_layer : Dims → List State → ℕ → LayerCount
-count_of_layer d ss h = record { h = h; nodes = length (layer_node_keys d ss h); tets = length (layer_pieces d ss h) }
 
 -- the mesh of a field with these states of all vertices
 unfoldable pub mesh_of : Field → List State → Mesh

@@ -5,12 +5,11 @@ ghost use Rattle.definitions.specs.Mesh.{ArePadded, mesh};
 ghost use Rattle.definitions.specs.States.{states, states as states_lem, IsShares};
 ghost use Rattle.definitions.specs.Values.{IsField};
 ghost use Rattle.place_laws.specs.Inside.{StandsInside};
-ghost use Rattle.mesh_lists.specs.Parts.{NumbersMesh};
 
 use crate::Mesh;
 use crate::places::places_of;
 use crate::tetrahedra::tets_of;
-use bcc_lattice::vertex_count;
+use bcc_lattice::{first_vertex, vertex_count};
 use samples::Field;
 use snap_rule::{Shares, States, all_states};
 use st_base::{NoMemory, Tally};
@@ -19,14 +18,6 @@ use vertex_numbers::{Numbered, Starts};
 
 /// A mesh has about so many tetrahedra for each node.
 const TETS_A_NODE: usize = 6;
-
-/// The numbers of all nodes, and how many there are.
-fn numbers_of(alloc: Global, states: &States) -> Result<Numbered, NoMemory>
-    requires padded { ArePadded states.now.dims states.now.states }
-    ensures { IfOk result (λ n. NumbersMesh states.now.dims states.now.states n.starts) }
-{
-    Starts::of_all(alloc, states)
-}
 
 /// The states of all vertices, none of them Plus in the padding.
 fn states_of(alloc: Global, field: &Field, shares: Shares) -> Result<States, NoMemory>
@@ -51,20 +42,29 @@ fn mesh_of(alloc: Global, field: &Field, shares: Shares, states: &States) -> Res
     requires limits { IsShares shares }
     ensures { IfOk result (λ m. m ≡ mesh field.now shares) }
 {
-    let Ok(numbered) = numbers_of(alloc, states) else {
-        return Err(NoMemory);
-    };
-    let Numbered { starts, count } = numbered;
-    let Ok(places) = places_of(alloc, field, states, &starts, count) else {
-        return Err(NoMemory);
-    };
-    let Ok(tets) = tets_of(alloc, states, &starts, TETS_A_NODE * count as usize) else {
-        return Err(NoMemory);
-    };
+    let Numbered { starts, count } = Starts::of_all(alloc, states)?;
+    let end = vertex_count(states.dims());
+    let places = places_of(
+        alloc,
+        count,
+        field,
+        states,
+        &starts,
+        first_vertex(0),
+        0,
+        end,
+    )?;
+    let tets = tets_of(alloc, states, &starts, TETS_A_NODE * count as usize)?;
     Ok(Mesh::new(places, tets))
 }
 
 /// The mesh of a field, on one thread, as plain lists.
+///
+/// ```rust
+/// let mesh = build_mesh(rt.alloc(), &field, shares)?;
+/// println!(rt; "{} nodes, {} tetrahedra", mesh.places().len(), mesh.tets().len())?;
+/// let angles = extremes(&mesh);
+/// ```
 pub fn build_mesh(alloc: Global, field: &Field, shares: Shares) -> Result<Mesh, NoMemory>
     ensures mesh { IfOk result (λ m. m ≡ mesh field.now shares) }
     ensures inside { IfOk result (λ m. All (StandsInside field.now.dims) m.places) }
@@ -73,8 +73,6 @@ pub fn build_mesh(alloc: Global, field: &Field, shares: Shares) -> Result<Mesh, 
     ensures few { IfOk result (λ m. length m.places < 2 ^ 31) }
     ensures few_tets { IfOk result (λ m. length m.tets < 2 ^ 32) }
 {
-    match states_of(alloc, field, shares) {
-        Ok(states) => mesh_of(alloc, field, shares, &states),
-        Err(fault) => Err(fault),
-    }
+    let states = states_of(alloc, field, shares)?;
+    mesh_of(alloc, field, shares, &states)
 }

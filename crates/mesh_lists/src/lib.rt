@@ -4,8 +4,8 @@
 
 mod angles;
 mod build;
+mod list;
 mod mesh;
-mod order;
 mod places;
 mod tetrahedra;
 mod whole;
@@ -13,7 +13,6 @@ mod whole;
 pub use angles::extremes;
 pub use build::build_mesh;
 pub use mesh::Mesh;
-pub use order::next_vertex;
-pub use places::push_nodes;
+pub use places::{edge_cut, places_of};
 pub use tetrahedra::push_tets_from;
 pub use whole::{Whole, six_tets, whole_numbers};

@@ -8,7 +8,8 @@ use std::marker::Model;
 
 /// The mesh of a field with some shares: the places of its nodes, and its tetrahedra.
 ///
-/// There is no other way to one than [`crate::build_mesh`], so that each tetrahedron has a volume above zero.
+/// It is the mesh of some field: there is no other way to one than [`crate::build_mesh`], so that each tetrahedron has a
+/// volume above zero.
 #[derive(Drop)]
 pub struct Mesh {
     places: Vec<Place>,

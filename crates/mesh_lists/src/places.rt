@@ -1,11 +1,11 @@
-ghost use Rattle.std.specs.Prelude.{◌≡◌, ◌+◌, ◌*◌, ◌/◌, ◌^◌, ◌<◌, ◌≤◌, ◌++◌, ◌∷◌, [], IfOk, OnOk, map, if◌then◌else◌};
-ghost use Rattle.definitions.specs.Lattice.{InDomain, id as id_of};
-ghost use Rattle.definitions.specs.Mesh.{all_pieces, edge_cut, node_keys, node_place, occurs};
-ghost use Rattle.mesh_lists.specs.Layers.{TellsUsed};
-ghost use Rattle.mesh_lists.specs.Parts.{keys_at, NumbersMesh};
+ghost use Rattle.std.specs.Prelude.{◌≡◌, ◌+◌, ◌-◌, ◌*◌, ◌/◌, ◌^◌, ◌<◌, ◌≤◌, ◌++◌, ◌∷◌, [], IfOk, OnOk, length, map, if◌then◌else◌};
+ghost use Rattle.definitions.specs.Lattice.{InDomain, id as id_of, vertex_at, vertices};
+ghost use Rattle.definitions.specs.Mesh.{all_pieces, edge_cut, node_place, occurs};
+ghost use Rattle.mesh_lists.specs.Parts.{keys_at, keys_of_ids};
+ghost use Rattle.vertex_numbers.specs.Numbering.{NumbersIds, TellsUsed};
 
-use crate::order::next_vertex;
-use bcc_lattice::{Dir, cut_place, neighbour, place, vertex_count};
+use crate::list::push;
+use bcc_lattice::{Dir, cut_place, neighbour, next_vertex, place};
 use cut_points::cut;
 use samples::Field;
 use snap_rule::States;
@@ -15,7 +15,7 @@ use vertex_numbers::Starts;
 
 /// The number of the cut on the edge from a vertex in a direction, 0 where there is none.
 #[tactic(auto, using(std::proofs::lemmas::Grind::common_steps))]
-fn edge_cut(field: &Field, v: Vertex, dir: Dir) -> u16
+pub fn edge_cut(field: &Field, v: Vertex, dir: Dir) -> u16
     requires { InDomain field.now.dims v }
     ensures { result ≡ edge_cut field.now v dir }
 {
@@ -35,15 +35,6 @@ fn node_place(field: &Field, states: &States, v: Vertex, dir: u8) -> Place
     match Dir::new(dir) {
         Some(dir) => cut_place(v, dir, edge_cut(field, v, dir)),
         None => place(v, states.state(v)),
-    }
-}
-
-fn push(places: &mut Vec<Place>, place: Place) -> Result<(), NoMemory>
-    ensures { OnOk result (places.new.items ≡ places.old.items ++ place ∷ []) }
-{
-    match places.push(place) {
-        Ok(()) => Ok(()),
-        Err(_) => Err(NoMemory),
     }
 }
 
@@ -75,7 +66,7 @@ fn push_node(
 }
 
 /// The places of the nodes at a vertex.
-pub fn push_nodes(
+fn push_nodes(
     field: &Field,
     states: &States,
     starts: &Starts,
@@ -97,35 +88,38 @@ pub fn push_nodes(
         return Ok(());
     }
     for dir in 0..8u32 {
-        if push_node(field, states, starts, v, 8 * id + dir, places).is_err() {
-            return Err(NoMemory);
-        }
+        push_node(field, states, starts, v, 8 * id + dir, places)?;
     }
     Ok(())
 }
 
-/// The places of all nodes, of which there are `count`, in the order of their keys.
+/// The places of the nodes of the vertices of the ids from `start` on and before `end`, in the order of their keys, `v`
+/// being the first vertex; room is taken beforehand for `count` of them.
 pub fn places_of(
     alloc: Global,
+    count: u32,
     field: &Field,
     states: &States,
     starts: &Starts,
-    count: u32,
+    v: Vertex,
+    start: u32,
+    end: u32,
 ) -> Result<Vec<Place>, NoMemory>
     requires sizes { states.now.dims ≡ field.now.dims }
-    requires numbers { NumbersMesh field.now.dims states.now.states starts.now }
+    requires numbers { NumbersIds field.now.dims states.now.states start end starts.now }
+    requires first { start < length (vertices field.now.dims) → v ≡ vertex_at field.now.dims start }
+    requires some { start ≤ end }
+    requires within { end ≤ length (vertices field.now.dims) }
     ensures { IfOk result (λ places. places.items
-        ≡ map (node_place field.now states.now.states) (node_keys field.now.dims states.now.states)) }
+        ≡ map (node_place field.now states.now.states) (keys_of_ids field.now.dims states.now.states start (end - start))) }
 {
     let dims = field.dims();
     let Ok(mut places) = Vec::with_capacity(alloc, count as usize) else {
         return Err(NoMemory);
     };
-    let mut v = Vertex { h: 0, y: 0, x: 0 };
-    for id in 0..vertex_count(dims) {
-        if push_nodes(field, states, starts, v, id, &mut places).is_err() {
-            return Err(NoMemory);
-        }
+    let mut v = v;
+    for id in start..end {
+        push_nodes(field, states, starts, v, id, &mut places)?;
         v = next_vertex(dims, v);
     }
     Ok(places)

@@ -6,12 +6,12 @@ ghost use Rattle.definitions.specs.States.{sign_of_state};
 ghost use Rattle.definitions.specs.Tetrahedra.{IsLatticeTet, tets_from};
 ghost use Rattle.lattice_laws.specs.Ascending.{Has};
 ghost use Rattle.mesh_lists.specs.Layers.{NumbersLayers};
-ghost use Rattle.mesh_lists.specs.Parts.{keys_of_vertex, numbered, numbered_from, numbered_in, NumbersMesh};
-ghost use Rattle.vertex_numbers.specs.Numbering.{Holds, number_in, used_in};
+ghost use Rattle.mesh_lists.specs.Parts.{keys_of_vertex, numbered, numbered_from, numbered_in};
+ghost use Rattle.vertex_numbers.specs.Numbering.{HoldsKey, NumbersMesh, number_in, used_in};
 
-use crate::order::next_vertex;
+use crate::list::push;
 use crate::whole::{push_six, whole_numbers};
-use bcc_lattice::{Tet, tets_at, vertex_count};
+use bcc_lattice::{Tet, first_vertex, next_vertex, tets_at, vertex_count};
 use snap_rule::States;
 use st_base::{NoMemory, Sign, Vertex};
 use std::alloc::Global;
@@ -35,7 +35,7 @@ fn signs_of(states: &States, tet: &Tet) -> [Sign; 4]
 
 /// The node numbers of a piece.
 fn numbers_of(starts: &Starts, keys: [u32; 4]) -> [u32; 4]
-    requires { All (Holds starts.now) keys }
+    requires { All (HoldsKey starts.now) keys }
     ensures { result ≡ map (number_in starts.now) keys }
 {
     let [a, b, c, d] = keys;
@@ -45,15 +45,6 @@ fn numbers_of(starts: &Starts, keys: [u32; 4]) -> [u32; 4]
         starts.number(c),
         starts.number(d),
     ]
-}
-
-fn push(tets: &mut Vec<[u32; 4]>, tet: [u32; 4]) -> Result<(), NoMemory>
-    ensures { OnOk result (tets.new.items ≡ tets.old.items ++ tet ∷ []) }
-{
-    match tets.push(tet) {
-        Ok(()) => Ok(()),
-        Err(_) => Err(NoMemory),
-    }
 }
 
 /// The pieces of a lattice tetrahedron whose lowest vertex is `v`, by node numbers.
@@ -76,9 +67,7 @@ fn push_pieces(
 {
     let pieces = pieces(tet, signs_of(states, tet));
     for n in 0..pieces.len {
-        if push(tets, numbers_of(starts, pieces.of[n as usize])).is_err() {
-            return Err(NoMemory);
-        }
+        push(tets, numbers_of(starts, pieces.of[n as usize]))?;
     }
     Ok(())
 }
@@ -98,9 +87,7 @@ pub fn push_tets_from(
 {
     let from = tets_at(states.dims(), v);
     for n in 0..from.len {
-        if push_pieces(states, starts, v, &from.of[n as usize], tets).is_err() {
-            return Err(NoMemory);
-        }
+        push_pieces(states, starts, v, &from.of[n as usize], tets)?;
     }
     Ok(())
 }
@@ -148,11 +135,9 @@ pub fn tets_of(
     let Ok(mut tets) = Vec::with_capacity(alloc, count) else {
         return Err(NoMemory);
     };
-    let mut v = Vertex { h: 0, y: 0, x: 0 };
+    let mut v = first_vertex(0);
     for id in 0..vertex_count(dims) {
-        if push_tets_at(states, starts, v, id, &mut tets).is_err() {
-            return Err(NoMemory);
-        }
+        push_tets_at(states, starts, v, id, &mut tets)?;
         v = next_vertex(dims, v);
     }
     Ok(tets)

@@ -27,6 +27,10 @@ use Rattle.mesh_rounds.specs.Rounds.{all_extremes, all_lines, extremes_to, text_
 use Rattle.slab_emit.specs.Parts.{AreParts, IsPart}
 use Rattle.slab_emit.specs.Sources.{AreMeasured, SourceValue, slab_angles, slab_extremes, slab_lines}
 
+-- as many slabs are done as there are
+pub at_end : (done count all : ℕ) → done ≤ all → count ≡ all → count ≤ done → done ≡ all
+at_end done count all within same no_more = omega arith
+
 -- ---- texts
 
 pub parts_text : (lines : Lines) (s : SourceValue) (first : ℕ) (ps : List Part) → AreParts lines s first ps → text_of ps ≡ flat_map (slab_lines lines s) (range_with_len first (length ps))

@@ -1,6 +1,6 @@
 -- Texts that are written one after another, or in part; and what is known of results.
-use Rattle.std.proofs.Common.{◌≡◌, ℕ, List, [], ◌∷◌, ◌++◌, length, codes, decimal, Option, ap, subst, sym}
-use Rattle.std.specs.Prelude.{IfOk, OnOk, OnErr, Result, Ok, Err}
+use Rattle.std.proofs.Common.{◌≡◌, ℕ, List, ◌++◌, length, codes, decimal, Option, ap, subst, sym}
+use Rattle.std.specs.Prelude.{OnOk, OnErr, Result, Ok, Err}
 use Rattle.std.specs.Io.KnownBytes.{Appends}
 use Rattle.std.proofs.KnownBytes.{Appends-trans}
 use Rattle.definitions.specs.declared.Place.{Place}
@@ -37,7 +37,3 @@ then_ok (Err e) h f = tt
 pub then_err : {T E : Type 0} {A B : Type 0} (r : Result T E) → OnErr r A → (A → B) → OnErr r B
 then_err (Ok x) h f = tt
 then_err (Err e) h f = f h
-
-pub then_if : {T E : Type 0} (r : Result T E) (P Q : T → Type 0) → IfOk r P → ((x : T) → P x → Q x) → IfOk r Q
-then_if (Ok x) P Q h f = f x h
-then_if (Err e) P Q h f = tt

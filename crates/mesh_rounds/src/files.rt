@@ -1,12 +1,12 @@
 ghost use Rattle.std.specs.Prelude.{◌≡◌, ◌≢◌, ◌≤◌, ◌++◌, List, ℕ, All, decimal, true, Err, OnOk, OnErr, IfOk, IsErrOf};
 ghost use Rattle.std.specs.Io.KnownBytes.{Appends};
 ghost use Rattle.definitions.specs.Angles.{angles, extremes_of};
-ghost use Rattle.formats.specs.declared.Port.{Port};
 ghost use Rattle.mesh_texts.specs.Files.{node_text, ele_text};
 ghost use Rattle.node_ele_write.specs.Printable.{IsPrintable};
 ghost use Rattle.mesh_lists.specs.Parts.{mesh_of};
 ghost use Rattle.st_base.specs.Causes.{Rose};
 ghost use Rattle.st_base.specs.Desk.{AppendsPart};
+ghost use Rattle.st_base.specs.Frames.{OnlyPort};
 
 use crate::lines::put_lines;
 use dihedral::Extremes;
@@ -43,10 +43,7 @@ fn put_text<D: Desk>(desk: &mut D, port: Port, bytes: &[u8]) -> Result<(), PutFa
         (D.ports desk.new port).faults ≡ (D.ports desk.old port).faults }
     ensures is_open { (D.ports desk.new port).is_open ≡ true }
     ensures name { (D.ports desk.new port).name ≡ (D.ports desk.old port).name }
-    ensures tried { D.tried desk.new ≡ D.tried desk.old }
-    ensures input { D.input desk.new ≡ D.input desk.old }
-    ensures others { (p : Port) → p ≢ port → D.ports desk.new p ≡ D.ports desk.old p }
-    ensures held { (n : List ℕ) → D.held desk.new n ≡ D.held desk.old n }
+    ensures apart { OnlyPort D.Desk port desk.old desk.new }
 {
     match put_all(desk, port, bytes) {
         Ok(()) => Ok(()),
@@ -75,10 +72,7 @@ fn put_head<D: Desk>(
         (D.ports desk.new port).faults ≡ (D.ports desk.old port).faults }
     ensures is_open { (D.ports desk.new port).is_open ≡ true }
     ensures name { (D.ports desk.new port).name ≡ (D.ports desk.old port).name }
-    ensures tried { D.tried desk.new ≡ D.tried desk.old }
-    ensures input { D.input desk.new ≡ D.input desk.old }
-    ensures others { (p : Port) → p ≢ port → D.ports desk.new p ≡ D.ports desk.old p }
-    ensures held { (n : List ℕ) → D.held desk.new n ≡ D.held desk.old n }
+    ensures apart { OnlyPort D.Desk port desk.old desk.new }
 {
     match head(alloc, count, more) {
         Ok(text) => put_text(desk, port, &text),
@@ -113,10 +107,7 @@ pub fn put_nodes<D: Desk, G: Gate + Sync, R: Threads + Sync>(
         (D.ports desk.new port).faults ≡ (D.ports desk.old port).faults }
     ensures is_open { (D.ports desk.new port).is_open ≡ true }
     ensures name { (D.ports desk.new port).name ≡ (D.ports desk.old port).name }
-    ensures tried { D.tried desk.new ≡ D.tried desk.old }
-    ensures input { D.input desk.new ≡ D.input desk.old }
-    ensures others { (p : Port) → p ≢ port → D.ports desk.new p ≡ D.ports desk.old p }
-    ensures held { (n : List ℕ) → D.held desk.new n ≡ D.held desk.old n }
+    ensures apart { OnlyPort D.Desk port desk.old desk.new }
 {
     let nodes = source.nodes();
     match put_head(alloc, desk, port, u64::from(nodes), b" 3 0 0\n") {
@@ -165,10 +156,7 @@ pub fn put_tets<D: Desk, G: Gate + Sync, R: Threads + Sync>(
         (D.ports desk.new port).faults ≡ (D.ports desk.old port).faults }
     ensures is_open { (D.ports desk.new port).is_open ≡ true }
     ensures name { (D.ports desk.new port).name ≡ (D.ports desk.old port).name }
-    ensures tried { D.tried desk.new ≡ D.tried desk.old }
-    ensures input { D.input desk.new ≡ D.input desk.old }
-    ensures others { (p : Port) → p ≢ port → D.ports desk.new p ≡ D.ports desk.old p }
-    ensures held { (n : List ℕ) → D.held desk.new n ≡ D.held desk.old n }
+    ensures apart { OnlyPort D.Desk port desk.old desk.new }
 {
     let tets = source.tets();
     match put_head(alloc, desk, port, tets, b" 4 0\n") {

@@ -1,5 +1,10 @@
 //! The files of a mesh to a port round by round, and the extremes of its angles without its files: some slabs are made
 //! by workers, written and given up, and then the next.
+//!
+//! ```rust
+//! put_nodes(rt, alloc, &mut desk, Port::Node, &source, step, workers, &OpenGate)?;
+//! let extremes = put_tets(rt, alloc, &mut desk, Port::Ele, &source, workers, &OpenGate)?;
+//! ```
 #![tactic(auto)]
 
 mod files;

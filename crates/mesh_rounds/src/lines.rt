@@ -1,8 +1,8 @@
 ghost use Rattle.std.specs.Prelude.{◌≡◌, ◌≢◌, ◌≤◌, ℕ, List, true, Err, OnOk, OnErr, IfOk, IsErrOf};
 ghost use Rattle.std.specs.Io.KnownBytes.{Appends};
-ghost use Rattle.formats.specs.declared.Port.{Port};
 ghost use Rattle.st_base.specs.Causes.{Rose};
 ghost use Rattle.st_base.specs.Desk.{AppendsPart};
+ghost use Rattle.st_base.specs.Frames.{OnlyPort};
 ghost use Rattle.slab_emit.specs.Sources.{CanPrint};
 ghost use Rattle.mesh_rounds.specs.Rounds.{all_extremes, all_lines, text_of};
 
@@ -25,10 +25,7 @@ fn put_parts<D: Desk>(desk: &mut D, port: Port, parts: &[Part]) -> Result<(), Pu
     ensures later { (D.ports desk.old port).faults ≤ (D.ports desk.new port).faults }
     ensures is_open { (D.ports desk.new port).is_open ≡ true }
     ensures name { (D.ports desk.new port).name ≡ (D.ports desk.old port).name }
-    ensures tried { D.tried desk.new ≡ D.tried desk.old }
-    ensures input { D.input desk.new ≡ D.input desk.old }
-    ensures others { (p : Port) → p ≢ port → D.ports desk.new p ≡ D.ports desk.old p }
-    ensures held { (n : List ℕ) → D.held desk.new n ≡ D.held desk.old n }
+    ensures apart { OnlyPort D.Desk port desk.old desk.new }
 {
     for n in 0..parts.len() {
         let part = &parts[n];
@@ -64,10 +61,7 @@ pub fn put_lines<D: Desk, G: Gate + Sync, R: Threads + Sync>(
     ensures later { (D.ports desk.old port).faults ≤ (D.ports desk.new port).faults }
     ensures is_open { (D.ports desk.new port).is_open ≡ true }
     ensures name { (D.ports desk.new port).name ≡ (D.ports desk.old port).name }
-    ensures tried { D.tried desk.new ≡ D.tried desk.old }
-    ensures input { D.input desk.new ≡ D.input desk.old }
-    ensures others { (p : Port) → p ≢ port → D.ports desk.new p ≡ D.ports desk.old p }
-    ensures held { (n : List ℕ) → D.held desk.new n ≡ D.held desk.old n }
+    ensures apart { OnlyPort D.Desk port desk.old desk.new }
 {
     let slabs = source.slabs();
     let mut crew = Crew::new(alloc, workers);

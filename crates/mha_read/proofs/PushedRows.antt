@@ -1,6 +1,7 @@
 -- Samples at the end of others.
-use Rattle.std.proofs.Common.{◌≡◌, ℕ, ℤ, ◌+◌, ◌-◌, ◌*◌, ◌/◌, ◌%◌, ◌<◌, ◌≤◌, ◌==◌, ◌&&◌, List, [], ◌∷◌, ◌++◌, map, flat_map, length, take, drop, Bool, true, false, if◌then◌else◌, refl, ap, sym, ◌∙◌, arith, append_assoc, append-nil, subst, w64, to_z, of_z, FitsSigned}
+use Rattle.std.proofs.Common.{◌≡◌, ℕ, ℤ, ◌+◌, ◌-◌, ◌*◌, ◌/◌, ◌%◌, ◌<◌, ◌≤◌, ◌==◌, ◌&&◌, List, [], ◌∷◌, ◌++◌, map, flat_map, length, take, drop, Bool, true, false, if◌then◌else◌, refl, ap, sym, ◌∙◌, arith, append_assoc, append-nil, subst, length-drop, w64, to_z, of_z, FitsSigned}
 use Rattle.std.proofs.lemmas.Grind.{flat_map-append}
+use Rattle.std.proofs.lemmas.List.{take_all}
 use Rattle.std.proofs.lemmas.List.FromFn.{map-range_with_len_more}
 use Rattle.std.proofs.Math.Nat.{mul-le-mul_right}
 use Rattle.std.proofs.lemmas.Int.{ints, to_z-of_z}
@@ -13,7 +14,6 @@ use Rattle.formats.specs.Samples.{bytes_per_sample, sample_number, sample_of_byt
 use Rattle.formats.specs.Volumes.{kept_size, least_of, greatest_of}
 use Rattle.mha_read.specs.RawRows.{kept_of_row, kept_at_row, kept_of_rows}
 use Rattle.mha_read.proofs.Ranges.{kept_below, range_add}
-use Rattle.mha_read.proofs.ValueWords.{tail_is}
 
 pub some_bytes : (kind : Kind) → 0 < bytes_per_sample kind
 some_bytes Uchar = omega arith
@@ -26,7 +26,7 @@ some_bytes Int = omega arith
 pub number_at : (kind : Kind) (big : Bool) (bytes : List ℕ) (n at : ℕ) → at ≡ n * bytes_per_sample kind → sample_number kind big (take (length bytes - at) (drop at bytes)) ≡ sample_of_bytes kind big bytes n
 number_at kind big bytes n at e =
     let f : at ≡ bytes_per_sample kind * n = omega arith in
-    ap (sample_number kind big) (tail_is at bytes ∙ ap (λ (k : ℕ). drop k bytes) f)
+    ap (sample_number kind big) (take_all (length bytes - at) (drop at bytes) (omega (arith, length-drop at bytes)) ∙ ap (λ (k : ℕ). drop k bytes) f)
 
 pub within_row : (first step width i size len : ℕ) → 0 < step → i < kept_size step width → (first + width) * size ≤ len → (first + i * step + 1) * size ≤ len
 within_row first step width i size len positive lt within =

@@ -3,10 +3,9 @@ use Rattle.std.proofs.Common.{◌≡◌, ℕ, ◌+◌, ◌*◌, ◌/◌, ◌%◌
 use Rattle.std.proofs.lemmas.Grind.{common_steps, flat_map-append, div_ceil_times}
 use Rattle.std.proofs.Math.Nat.{mul-le-mul_right, mul-suc, suc-mul, mul-zero, zero-mul, mod-eq_of_lt, div-eq_of_lt, add-mul-mod_self_right, add-mul-div_right, mod-lt}
 use Rattle.std.proofs.lemmas.Nat.{div-add-mod'}
-use Rattle.std.proofs.lemmas.Bool.{ltb-true}
+use Rattle.std.proofs.lemmas.Bool.{ltb-true, ltb-false}
 use Rattle.std.specs.List.{range_with_len}
 use Rattle.formats.specs.Volumes.{kept_size}
-use Rattle.mha_read.proofs.ValueWords.{not_less}
 
 range_next : (a n : ℕ) → range_with_len a (suc n) ≡ range_with_len a n ++ (a + n) ∷ []
 range_next a zero = let e : a ≡ a + 0 = omega arith in ap (λ (k : ℕ). k ∷ []) e
@@ -79,7 +78,7 @@ no_less s a b c positive low high = by_test (nat_lt a b) refl
         let lt : a + 1 ≤ b = omega (arith, ltb-true a b e) in
         let more : (a + 1) * s ≤ b * s = mul-le-mul_right s lt in
         absurd (omega arith)
-    by_test false e = not_less a b e
+    by_test false e = ltb-false a b e
 
 same_steps : (s a b c : ℕ) → 0 < s → c ≤ a * s → a * s < c + s → c ≤ b * s → b * s < c + s → a ≡ b
 same_steps s a b c positive la ha lb hb = omega (arith, no_less s a b c positive la hb, no_less s b a c positive lb ha)

@@ -1,10 +1,12 @@
 -- Rows that are read in parts.
-use Rattle.std.proofs.Common.{◌≡◌, ◌≢◌, ℕ, ℤ, ◌+◌, ◌*◌, ◌/◌, ◌%◌, ◌^◌, ◌<◌, ◌≤◌, List, [], ◌++◌, length, Option, zero, suc, ap, sym, ◌∙◌, arith, length-append}
+use Rattle.std.proofs.Common.{◌≡◌, ◌≢◌, ℕ, ℤ, ◌+◌, ◌*◌, ◌^◌, ◌≤◌, List, [], ◌++◌, length, Option, ap, sym, ◌∙◌, arith, length-append}
 use Rattle.std.proofs.KnownBytes.{Consumes-nil, Consumes-trans}
-use Rattle.std.proofs.Math.Nat.{mul-le-mul, mul-le-mul_right, zero-mul, mod-lt, div-add-mod}
+use Rattle.std.proofs.Math.Nat.{mul-le-mul, mul-le-mul_right, zero-mul}
 use Rattle.std.specs.List.{All}
 use Rattle.std.specs.declared.result.Result.{Result}
 use Rattle.std.specs.declared.result.Result.TheVariants.{Err}
+use Rattle.formats.specs.declared.Kind.{Kind}
+use Rattle.formats.specs.declared.Kind.TheVariants.{Uchar, Char, Ushort, Short, Uint, Int}
 use Rattle.formats.specs.Samples.{bytes_per_sample, sample_of_bytes}
 use Rattle.mha_read.specs.Samples.{IsGrid, row_bytes, kept_rows, TakesRows, TakesMore, ReadsRows, ReadsSamples, fault_behind, FitsBehind}
 use Rattle.mha_read.specs.declared.samples.Grid.{Grid}
@@ -60,16 +62,26 @@ refused grid a b c row part rows before after (Truncated got) t p fits =
     }
 refused grid a b c row part rows before after NoMemory t p fits = tt
 
-few_bytes : (grid : Grid) → bytes_per_sample grid.kind ≤ 4 → IsGrid grid → row_bytes grid ≤ 32768
-few_bytes grid four is = let times : grid.width * bytes_per_sample grid.kind ≤ 8192 * 4 = mul-le-mul is.width_bound four in omega arith
+at_most_four : (kind : Kind) → bytes_per_sample kind ≤ 4
+at_most_four Uchar = omega arith
+at_most_four Char = omega arith
+at_most_four Ushort = omega arith
+at_most_four Short = omega arith
+at_most_four Uint = omega arith
+at_most_four Int = omega arith
 
-pub fits_behind : (grid : Grid) (b c : Option (List ℕ)) (row part rows : ℕ) (before after : List ℤ) (fault : SampleFault) → bytes_per_sample grid.kind ≤ 4 → IsGrid grid → ReadsRows grid b c row part before after (Err fault) → row + part ≤ rows → rows ≤ 2 ^ 26 → FitsBehind fault (row * row_bytes grid)
-fits_behind grid b c row part rows before after ReadFault four is p fits bound = tt
-fits_behind grid b c row part rows before after (Truncated got) four is p fits bound =
+few_bytes : (grid : Grid) → IsGrid grid → row_bytes grid ≤ 32768
+few_bytes grid is =
+    let four : bytes_per_sample grid.kind ≤ 4 = at_most_four grid.kind in
+    let times : grid.width * bytes_per_sample grid.kind ≤ 8192 * 4 = mul-le-mul is.width_bound four in omega arith
+
+pub fits_behind : (grid : Grid) (b c : Option (List ℕ)) (row part rows : ℕ) (before after : List ℤ) (fault : SampleFault) → IsGrid grid → ReadsRows grid b c row part before after (Err fault) → row + part ≤ rows → rows ≤ 2 ^ 26 → FitsBehind fault (row * row_bytes grid)
+fits_behind grid b c row part rows before after ReadFault is p fits bound = tt
+fits_behind grid b c row part rows before after (Truncated got) is p fits bound =
     let sum : row + part ≤ 2 ^ 26 = omega arith in
-    let times : (row + part) * row_bytes grid ≤ 2 ^ 26 * 32768 = mul-le-mul sum (few_bytes grid four is) in
+    let times : (row + part) * row_bytes grid ≤ 2 ^ 26 * 32768 = mul-le-mul sum (few_bytes grid is) in
     omega (arith, p.fewer, times)
-fits_behind grid b c row part rows before after NoMemory four is p fits bound = tt
+fits_behind grid b c row part rows before after NoMemory is p fits bound = tt
 
 pub other_fault : (T : Type 0) (fault r : SampleFault) (before : ℕ) → r ≡ fault_behind fault before → ◌≢◌ {A = Result T SampleFault} (Err r) (Err ReadFault) → ◌≢◌ {A = Result (Unit {0}) SampleFault} (Err fault) (Err ReadFault)
 other_fault T ReadFault r before is other = absurd (other (ap Err is))
@@ -78,15 +90,3 @@ other_fault T NoMemory r before is other = λ e. cc
 
 pub none_hold : (P : ℤ → Type 0) (xs : List ℤ) → xs ≡ [] → All P xs
 none_hold P xs none = λ k d lt. absurd (omega (arith, ap length none))
-
-some_turns : (n q r : ℕ) → n * q + r ≡ 65536 → r < n → n ≤ 32768 → 0 < q
-some_turns n zero r e lt le = absurd (omega arith)
-some_turns n (suc q) r e lt le = omega arith
-
--- a part has at least one row
-pub some_rows : (width size : ℕ) → 1 ≤ width → width ≤ 8192 → 0 < size → size ≤ 4 → 0 < 65536 / (width * size)
-some_rows width size wide narrow some four =
-    let times : width * size ≤ 8192 * 4 = mul-le-mul narrow four in
-    let least : 1 * 1 ≤ width * size = mul-le-mul wide some in
-    let positive : 0 < width * size = omega arith in
-    some_turns (width * size) (65536 / (width * size)) (65536 % (width * size)) (div-add-mod 65536 (width * size)) (mod-lt 65536 positive) (omega arith)

@@ -1,11 +1,11 @@
-ghost use Rattle.std.specs.Prelude.{◌≡◌, ◌∷◌, [], ◌<◌, ◌≤◌, length, if◌then◌else◌, Some, None, IfSome, MatchOption};
-ghost use Rattle.std.specs.List.{list_all, position_or_len};
+ghost use Rattle.std.specs.Prelude.{◌≡◌, ◌∷◌, [], ◌≤◌, length, if◌then◌else◌, Some, None, IfSome};
+ghost use Rattle.std.specs.List.{list_all};
 ghost use Rattle.std.specs.Str.Parse.{digits_value};
-ghost use Rattle.formats.specs.Counts.{is_blank, is_count, is_positive_count};
+ghost use Rattle.formats.specs.Counts.{is_count, is_positive_count};
 ghost use Rattle.formats.specs.Heads.{words_of};
 ghost use Rattle.mha_read.specs.RawSizes.{AreRawSizes, first_three};
 
-use crate::meaning::{blank, leading_blanks};
+use text_words::next_word;
 
 /// The number that 1 to 9 decimal digits write.
 pub fn count(digits: &[u8]) -> Option<u32>
@@ -35,34 +35,6 @@ pub fn positive_count(digits: &[u8]) -> Option<u32>
         Some(value) if value >= 1 => Some(value),
         _ => None,
     }
-}
-
-// The place of the first blank, or the length where there is none.
-fn place_of_blank(text: &[u8]) -> usize
-    ensures value { result ≡ position_or_len is_blank text.now }
-    ensures bound { result ≤ length text.now }
-{
-    for (i, byte) in text.iter().enumerate() {
-        if blank(*byte) {
-            return i;
-        }
-    }
-    text.len()
-}
-
-// The first word of a value, and what stands behind it.
-fn next_word(value: &[u8]) -> Option<(&[u8], &[u8])>
-    ensures words { MatchOption result
-        (words_of value.now ≡ [])
-        (λ parts. words_of value.now ≡ parts.0.now ∷ words_of parts.1.now) }
-    ensures shorter { IfSome result (λ parts. length parts.1.now < length value.now) }
-{
-    let text = &value[leading_blanks(value)..];
-    if text.is_empty() {
-        return None;
-    }
-    let at = place_of_blank(text);
-    Some((&text[..at], &text[at..]))
 }
 
 /// How many words a value has, where all of them are counts of at least 1.

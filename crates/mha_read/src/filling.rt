@@ -1,7 +1,7 @@
 ghost use Rattle.std.specs.Prelude.{◌≡◌, ◌+◌, ◌<◌, ◌≤◌, List, ℕ, length, take, drop, true, IfOk, OnErr};
 ghost use Rattle.std.specs.Io.KnownBytes.{Consumes, IsAtEnd, Keeps};
-ghost use Rattle.formats.specs.declared.Port.{Port};
 ghost use Rattle.st_base.specs.Causes.{HasCause};
+ghost use Rattle.st_base.specs.Frames.{OnlyInput};
 
 use st_base::{Desk, Failed};
 
@@ -17,9 +17,7 @@ fn read_at<D: Desk>(desk: &mut D, into: &mut [u8], at: usize) -> Result<usize, F
     ensures part { OnErr result (Keeps (D.input desk.old).left (D.input desk.new).left) }
     ensures cause { HasCause (D.input desk.old).faults (D.input desk.new).faults result }
     ensures is_open { (D.input desk.new).is_open ≡ true }
-    ensures ports { (p : Port) → D.ports desk.new p ≡ D.ports desk.old p }
-    ensures tried { D.tried desk.new ≡ D.tried desk.old }
-    ensures held { (n : List ℕ) → D.held desk.new n ≡ D.held desk.old n }
+    ensures apart { OnlyInput D.Desk desk.old desk.new }
 {
     desk.read(&mut into[at..])
 }
@@ -35,9 +33,7 @@ pub fn fill<D: Desk>(desk: &mut D, into: &mut [u8]) -> Result<usize, Failed>
         Consumes (D.input desk.old).left (D.input desk.new).left (take n into.new)) }
     ensures cause { HasCause (D.input desk.old).faults (D.input desk.new).faults result }
     ensures is_open { (D.input desk.new).is_open ≡ true }
-    ensures ports { (p : Port) → D.ports desk.new p ≡ D.ports desk.old p }
-    ensures tried { D.tried desk.new ≡ D.tried desk.old }
-    ensures held { (n : List ℕ) → D.held desk.new n ≡ D.held desk.old n }
+    ensures apart { OnlyInput D.Desk desk.old desk.new }
 {
     let mut at = 0usize;
     for _ in 0..into.len() {

@@ -1,4 +1,10 @@
 //! Reads a .mha file from a desk: the head, and the samples behind it.
+//!
+//! ```rust
+//! desk.open_input(b"scan.mha")?;
+//! let head = read_head(alloc, &mut desk)?;
+//! let volume = read_volume(alloc, &mut desk, &head, 1, &Limits::first())?;
+//! ```
 #![tactic(auto)]
 
 mod counts;

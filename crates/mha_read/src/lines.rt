@@ -1,16 +1,34 @@
-ghost use Rattle.std.specs.Prelude.{◌≡◌, ◌≢◌, List, ℕ, ◌<◌, ◌≤◌, length, true, Err, IfOk, IsErrOf};
-ghost use Rattle.std.specs.Io.KnownBytes.{Consumes};
-ghost use Rattle.formats.specs.declared.Port.{Port};
-ghost use Rattle.st_base.specs.Causes.{Rose};
+ghost use Rattle.std.specs.Prelude.{◌≡◌, ◌≢◌, ◌∷◌, [], ◌<◌, ◌≤◌, length, true, Err, IfOk, OnErr, IsErrOf, MatchOption};
+ghost use Rattle.std.specs.Io.KnownBytes.{Consumes, IsAtEnd, Keeps};
+ghost use Rattle.st_base.specs.Causes.{HasCause, Rose};
+ghost use Rattle.st_base.specs.Frames.{OnlyInput};
 ghost use Rattle.mha_read.specs.Lines.{TakesLine, HasNoNewline};
 
-use st_base::Desk;
+use st_base::{Desk, Failed};
 
 /// Why a line was not read.
 #[derive(Clone, Copy, Debug, PartialEq, Eq)]
 pub enum LineFault {
     ReadFault,
     NoMemory,
+}
+
+// Reads a byte; none where the input is at its end.
+fn read_byte<D: Desk>(desk: &mut D) -> Result<Option<u8>, Failed>
+    requires { (D.input desk.old).is_open ≡ true }
+    ensures byte { IfOk result (λ byte. MatchOption byte (IsAtEnd (D.input desk.new).left × Consumes (D.input desk.old).left (D.input desk.new).left [])
+        (λ b. Consumes (D.input desk.old).left (D.input desk.new).left (b ∷ []))) }
+    ensures part { OnErr result (Keeps (D.input desk.old).left (D.input desk.new).left) }
+    ensures cause { HasCause (D.input desk.old).faults (D.input desk.new).faults result }
+    ensures is_open { (D.input desk.new).is_open ≡ true }
+    ensures apart { OnlyInput D.Desk desk.old desk.new }
+{
+    let mut byte = [0u8];
+    match desk.read(&mut byte) {
+        Ok(0) => Ok(None),
+        Ok(_) => Ok(Some(byte[0])),
+        Err(Failed) => Err(Failed),
+    }
 }
 
 /// Reads a line of at most so many bytes, its newline among them, a byte at a time, and leaves its
@@ -32,24 +50,19 @@ pub fn read_line<D: Desk>(
         × HasNoNewline line.new.items × (length line.new.items < budget) }
     ensures later { (D.input desk.old).faults ≤ (D.input desk.new).faults }
     ensures is_open { (D.input desk.new).is_open ≡ true }
-    ensures ports { (p : Port) → D.ports desk.new p ≡ D.ports desk.old p }
-    ensures tried { D.tried desk.new ≡ D.tried desk.old }
-    ensures held { (n : List ℕ) → D.held desk.new n ≡ D.held desk.old n }
+    ensures apart { OnlyInput D.Desk desk.old desk.new }
 {
     line.clear();
     for _ in 0..budget {
-        let mut byte = [0u8];
-        let Ok(count) = desk.read(&mut byte) else {
-            return Err(LineFault::ReadFault);
-        };
-        if count == 0 {
-            return Ok(false);
-        }
-        if byte[0] == b'\n' {
-            return Ok(true);
-        }
-        if line.push(byte[0]).is_err() {
-            return Err(LineFault::NoMemory);
+        match read_byte(desk) {
+            Ok(Some(b'\n')) => return Ok(true),
+            Ok(Some(byte)) => {
+                if line.push(byte).is_err() {
+                    return Err(LineFault::NoMemory);
+                }
+            }
+            Ok(None) => return Ok(false),
+            Err(Failed) => return Err(LineFault::ReadFault),
         }
     }
     Ok(false)

@@ -1,9 +1,11 @@
-ghost use Rattle.std.specs.Prelude.{◌≡◌, ◌<◌, ◌≤◌, ◌==◌, length, true};
-ghost use Rattle.std.specs.List.{prefix_len, suffix_len, position_or_len, list_all, list_any, before_first, after_first};
+ghost use Rattle.std.specs.Prelude.{◌≡◌, ◌<◌, ◌==◌, length, true};
+ghost use Rattle.std.specs.List.{position_or_len, list_all, list_any, before_first, after_first};
 ghost use Rattle.std.specs.Str.Lines.{strip_carriage_return};
 ghost use Rattle.formats.specs.Counts.{is_blank};
-ghost use Rattle.formats.specs.HeadLines.{trim_blanks, meaning_of, pair_or_bad};
+ghost use Rattle.formats.specs.HeadLines.{meaning_of, pair_or_bad};
 ghost use Rattle.mha_read.specs.Meanings.{shown};
+
+use text_words::without_blanks;
 
 /// What a line of a head says: nothing, something bad, or a key's name and its value.
 #[derive(Clone, Copy, Debug)]
@@ -11,44 +13,6 @@ pub enum Meaning<'a> {
     Nothing,
     Bad,
     Pair { name: &'a [u8], value: &'a [u8] },
-}
-
-/// A space or a tab.
-pub fn blank(byte: u8) -> bool
-    ensures { result ≡ is_blank byte }
-{
-    byte == b' ' || byte == b'\t'
-}
-
-/// The number of blanks at the front.
-pub fn leading_blanks(text: &[u8]) -> usize
-    ensures value { result ≡ prefix_len is_blank text.now }
-    ensures bound { result ≤ length text.now }
-{
-    for (i, byte) in text.iter().enumerate() {
-        if !blank(*byte) {
-            return i;
-        }
-    }
-    text.len()
-}
-
-fn trailing_blanks(text: &[u8]) -> usize
-    ensures value { result ≡ suffix_len is_blank text.now }
-    ensures bound { result ≤ length text.now }
-{
-    let mut rest = text.len();
-    while rest > 0 && blank(text[rest - 1]) {
-        rest -= 1;
-    }
-    text.len() - rest
-}
-
-fn without_blanks(text: &[u8]) -> &[u8]
-    ensures { result.now ≡ trim_blanks text.now }
-{
-    let rest = &text[leading_blanks(text)..];
-    &rest[..rest.len() - trailing_blanks(rest)]
 }
 
 fn without_return(line: &[u8]) -> &[u8]

@@ -1,6 +1,6 @@
 ghost use Rattle.std.specs.Prelude.{◌≡◌, ◌≢◌, ◌<◌, ◌≤◌, List, ℕ, true, Some, Err, IfOk, IsErrOf};
-ghost use Rattle.formats.specs.declared.Port.{Port};
 ghost use Rattle.st_base.specs.Causes.{Rose};
+ghost use Rattle.st_base.specs.Frames.{OnlyInput};
 ghost use Rattle.mha_read.specs.LinesRead.{LinesRead};
 ghost use Rattle.mha_read.specs.NextLine.{NextLine};
 ghost use Rattle.mha_read.specs.RawSizes.{AreRawSizes};
@@ -30,9 +30,7 @@ fn next_line<D: Desk>(desk: &mut D, line: &mut Vec<u8>, place: usize) -> Result<
         (D.input desk.new).faults ≡ (D.input desk.old).faults }
     ensures later { (D.input desk.old).faults ≤ (D.input desk.new).faults }
     ensures is_open { (D.input desk.new).is_open ≡ true }
-    ensures ports { (p : Port) → D.ports desk.new p ≡ D.ports desk.old p }
-    ensures tried { D.tried desk.new ≡ D.tried desk.old }
-    ensures held { (n : List ℕ) → D.held desk.new n ≡ D.held desk.old n }
+    ensures apart { OnlyInput D.Desk desk.old desk.new }
 {
     match read_line(desk, line, LIMIT - place) {
         Ok(true) => Ok(place + line.len() + 1),
@@ -59,9 +57,7 @@ fn read_pairs<D: Desk>(alloc: Global, desk: &mut D) -> Result<Pairs, HeadFault>
         (D.input desk.new).faults ≡ (D.input desk.old).faults }
     ensures later { (D.input desk.old).faults ≤ (D.input desk.new).faults }
     ensures is_open { (D.input desk.new).is_open ≡ true }
-    ensures ports { (p : Port) → D.ports desk.new p ≡ D.ports desk.old p }
-    ensures tried { D.tried desk.new ≡ D.tried desk.old }
-    ensures held { (n : List ℕ) → D.held desk.new n ≡ D.held desk.old n }
+    ensures apart { OnlyInput D.Desk desk.old desk.new }
 {
     let mut line = Vec::new(alloc);
     let mut pairs = Pairs::new(alloc);
@@ -105,9 +101,7 @@ pub fn read_head<D: Desk>(alloc: Global, desk: &mut D) -> Result<Head, HeadFault
         (D.input desk.new).faults ≡ (D.input desk.old).faults }
     ensures later { (D.input desk.old).faults ≤ (D.input desk.new).faults }
     ensures is_open { (D.input desk.new).is_open ≡ true }
-    ensures ports { (p : Port) → D.ports desk.new p ≡ D.ports desk.old p }
-    ensures tried { D.tried desk.new ≡ D.tried desk.old }
-    ensures held { (n : List ℕ) → D.held desk.new n ≡ D.held desk.old n }
+    ensures apart { OnlyInput D.Desk desk.old desk.new }
 {
     match read_pairs(alloc, desk) {
         Ok(pairs) => judge(&pairs),

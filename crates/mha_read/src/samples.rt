@@ -1,8 +1,8 @@
 ghost use Rattle.std.specs.Prelude.{◌≡◌, ◌≢◌, ◌≤◌, ◌≤ℤ◌, ◌+◌, ◌*◌, ◌/◌, ◌%◌, ◌^◌, ◌++◌, ◌==◌, ◌&&◌, List, ℕ, length, true, Err, IfOk, OnOk, IsErrOf, All};
-ghost use Rattle.formats.specs.declared.Port.{Port};
 ghost use Rattle.formats.specs.Samples.{bytes_per_sample as sample_bytes, sample_of_bytes};
 ghost use Rattle.formats.specs.Volumes.{kept_size, least_of, greatest_of};
 ghost use Rattle.st_base.specs.Causes.{Rose};
+ghost use Rattle.st_base.specs.Frames.{OnlyInput};
 ghost use Rattle.mha_read.specs.RawRows.{kept_of_row};
 ghost use Rattle.mha_read.specs.Samples.{IsGrid, row_bytes, kept_rows, ReadsRows, ReadsSamples, FitsBehind, fault_behind};
 
@@ -124,9 +124,7 @@ fn read_rows<D: Desk>(
         (D.input desk.new).faults ≡ (D.input desk.old).faults }
     ensures later { (D.input desk.old).faults ≤ (D.input desk.new).faults }
     ensures is_open { (D.input desk.new).is_open ≡ true }
-    ensures ports { (p : Port) → D.ports desk.new p ≡ D.ports desk.old p }
-    ensures tried { D.tried desk.new ≡ D.tried desk.old }
-    ensures held { (n : List ℕ) → D.held desk.new n ≡ D.held desk.old n }
+    ensures apart { OnlyInput D.Desk desk.old desk.new }
 {
     match fill(desk, buffer) {
         Ok(count) => {
@@ -154,6 +152,29 @@ fn behind(fault: SampleFault, before: u64) -> SampleFault
     }
 }
 
+// How many bytes the rows before a row have.
+fn bytes_before(grid: &Grid, row: usize) -> u64
+    requires grid { IsGrid grid.now }
+    requires bound { row ≤ 2 ^ 26 }
+    ensures { result ≡ row * row_bytes grid.now }
+{
+    (row * (grid.width * bytes_per_sample(grid.kind))) as u64
+}
+
+// The rows that are read at once where so many are left, and how many bytes they have.
+fn next_part(grid: &Grid, left: usize) -> (usize, usize)
+    requires grid { IsGrid grid.now }
+    requires some { 1 ≤ left }
+    ensures some { 1 ≤ result.0 }
+    ensures within { result.0 ≤ left }
+    ensures bytes { result.1 ≡ result.0 * row_bytes grid.now }
+    ensures fits { result.1 ≤ 65536 }
+{
+    let row_len = grid.width * bytes_per_sample(grid.kind);
+    let rows = left.min(PART / row_len);
+    (rows, rows * row_len)
+}
+
 /// Reads the samples of all rows, and keeps some of them.
 pub fn read_samples<D: Desk>(
     alloc: Global,
@@ -174,32 +195,21 @@ pub fn read_samples<D: Desk>(
         (D.input desk.new).faults ≡ (D.input desk.old).faults }
     ensures later { (D.input desk.old).faults ≤ (D.input desk.new).faults }
     ensures is_open { (D.input desk.new).is_open ≡ true }
-    ensures ports { (p : Port) → D.ports desk.new p ≡ D.ports desk.old p }
-    ensures tried { D.tried desk.new ≡ D.tried desk.old }
-    ensures held { (n : List ℕ) → D.held desk.new n ≡ D.held desk.old n }
+    ensures apart { OnlyInput D.Desk desk.old desk.new }
 {
     let Ok(mut samples) = Vec::with_capacity(alloc, kept) else {
         return Err(SampleFault::NoMemory);
     };
     let mut buffer = [0u8; PART];
-    let row_len = grid.width * bytes_per_sample(grid.kind);
-    let most = PART / row_len;
     let mut row = 0usize;
     for _ in 0..rows {
         if row >= rows {
             return Ok(samples);
         }
-        let part = (rows - row).min(most);
-        match read_rows(
-            desk,
-            &mut samples,
-            &mut buffer[..part * row_len],
-            grid,
-            row,
-            part,
-        ) {
+        let (part, len) = next_part(grid, rows - row);
+        match read_rows(desk, &mut samples, &mut buffer[..len], grid, row, part) {
             Ok(()) => row += part,
-            Err(fault) => return Err(behind(fault, (row * row_len) as u64)),
+            Err(fault) => return Err(behind(fault, bytes_before(grid, row))),
         }
     }
     Ok(samples)

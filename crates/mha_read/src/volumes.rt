@@ -1,9 +1,9 @@
 ghost use Rattle.std.specs.Prelude.{◌≡◌, ◌≢◌, ◌<◌, ◌≤◌, ◌+◌, ◌*◌, ◌^◌, List, ℕ, drop, length, slice_index, true, false, Some, Ok, Err, IfOk, OnOk, IsErrOf, if◌then◌else◌, nat_lt};
 ghost use Rattle.std.specs.List.{list_any};
 ghost use Rattle.definitions.specs.Lattice.{dims, padded_product, IsDims};
-ghost use Rattle.formats.specs.declared.Port.{Port};
 ghost use Rattle.formats.specs.Volumes.{AreLimits, is_too_large, kept_dims, kept_size, wanted_bytes, volume_answer};
 ghost use Rattle.st_base.specs.Causes.{Rose};
+ghost use Rattle.st_base.specs.Frames.{OnlyInput};
 ghost use Rattle.mha_read.specs.RawSizes.{AreRawSizes};
 ghost use Rattle.mha_read.specs.VolumeTold.{FollowsHead, VolumeTold, grid_in};
 
@@ -175,9 +175,7 @@ pub fn read_volume<D: Desk>(
         (D.input desk.new).faults ≡ (D.input desk.old).faults }
     ensures later { (D.input desk.old).faults ≤ (D.input desk.new).faults }
     ensures is_open { (D.input desk.new).is_open ≡ true }
-    ensures ports { (p : Port) → D.ports desk.new p ≡ D.ports desk.old p }
-    ensures tried { D.tried desk.new ≡ D.tried desk.old }
-    ensures held { (n : List ℕ) → D.held desk.new n ≡ D.held desk.old n }
+    ensures apart { OnlyInput D.Desk desk.old desk.new }
 {
     let sizes = match allowed_sizes(head, step, limits) {
         Ok(sizes) => sizes,

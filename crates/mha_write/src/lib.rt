@@ -7,9 +7,6 @@ ghost use Rattle.byteorder.specs.Endian.{little_bytes};
 ghost use Rattle.mha_write.specs.ReadBack.{ReadsAs};
 ghost use Rattle.mha_write.specs.Text.{type_name, sizes_text, plain_head, mha_file};
 
-#[cfg(test)]
-mod tests;
-
 use itoa::Buffer;
 use sample_numbers::bytes_per_sample;
 use st_base::{Dims, Kind, NoMemory, Volume};
@@ -101,6 +98,11 @@ fn push_all(text: &mut Vec<u8>, volume: &Volume) -> Result<(), AllocError>
 /// The text of a .mha file of the volume: a plain head with its sizes and its type, and the samples
 /// with the least significant byte first. The step is not in it: read with step 1, it is the same
 /// volume with step 1.
+///
+/// ```rust
+/// let volume = phantom(alloc, 64, 7)?;
+/// let text = mha_text(alloc, &volume)?;
+/// ```
 pub fn mha_text(alloc: Global, volume: &Volume) -> Result<Vec<u8>, NoMemory>
     ensures text { IfOk result (λ text. text.items ≡ mha_file volume.now) }
     ensures reads_back { IfOk result (λ text. ReadsAs text.items volume.now) }

@@ -1,4 +1,9 @@
 //! Lattice tetrahedra whose vertices are snapped within the limits: 1023 parts of a long edge, 2047 of a short one.
+//!
+//! ```rust
+//! let matrix = moved_matrix(&tet, states);
+//! assert!(rt; dominant(matrix));
+//! ```
 #![tactic(auto)]
 
 ghost use Rattle.std.specs.Prelude.{◌≡◌, ◌*◌, ◌<◌, ◌≤◌, ℕ};

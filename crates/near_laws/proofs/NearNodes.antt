@@ -1,10 +1,9 @@
 -- The nodes of every tetrahedron of a mesh stand near each other.
 use Rattle.std.proofs.Common.{◌≡◌, ℕ, ◌<◌, ◌==◌, arith, refl, sym, ◌∙◌, ap, subst, inl, inr, Bool, true, false, List, [], ◌∷◌, map, length, get_or, pos}
 use Rattle.std.specs.Prelude.{All, int_lt, if◌then◌else◌}
-use Rattle.std.specs.List.{AllByRecursion, list_all, list_any}
-use Rattle.std.proofs.lemmas.Bool.{eqb-true, eq-eqb}
+use Rattle.std.specs.List.{AllByRecursion, list_all}
+use Rattle.std.proofs.lemmas.Bool.{eqb-true}
 use Rattle.std.proofs.lemmas.List.{get_or-map, length-map}
-use Rattle.std.proofs.lemmas.List.Folds.{list_any_at}
 use Rattle.definitions.specs.declared.Corner.{Corner}
 use Rattle.definitions.specs.declared.Sign.{Sign}
 use Rattle.definitions.specs.declared.Vertex.{Vertex}
@@ -26,11 +25,11 @@ use Rattle.lattice_laws.proofs.FiniteTests.{each_case}
 use Rattle.lattice_laws.proofs.KeyOrder.{pieces_by_table, tet_ids_rise}
 use Rattle.lattice_laws.proofs.ListedTetrahedra.{lattice_tets_listed}
 use Rattle.lattice_laws.proofs.Lists.{all_at_member}
-use Rattle.lattice_laws.proofs.Members.{from_flat_map, from_map, place_of}
+use Rattle.lattice_laws.proofs.Members.{from_flat_map, from_map}
 use Rattle.lattice_laws.proofs.Sublists.{all_by_place, has_at}
 use Rattle.node_laws.proofs.NumbersLeadBack.{numbers_lead_back}
 use Rattle.node_laws.proofs.Padding.{states_are_padded}
-use Rattle.node_laws.proofs.Pieces.{lattice_tet_uses_nodes}
+use Rattle.node_laws.proofs.Pieces.{lattice_tet_uses_nodes, occurs_in}
 use Rattle.node_laws.proofs.Standing.{keys_are_below}
 use Rattle.stencil_laws.specs.Cases.{case_pieces}
 use Rattle.near_laws.specs.Near.{IsPlaced, NodesAreNear}
@@ -67,13 +66,6 @@ piece_four tet ids signs p len h =
 
 -- ---- a tetrahedron of the mesh
 
-occurs_at : (ps : List (List ℕ)) (p : List ℕ) (key : ℕ) → Has p ps → Has key p → occurs ps key ≡ true
-occurs_at ps p key h k =
-    let r = place_of [] p ps h in
-    let q = place_of 0 key p k in
-    list_any_at (list_any (λ j. j == key)) ps r.0 [] r.1
-    (subst (λ xs. list_any (λ j. j == key) xs ≡ true) (sym r.2) (list_any_at (λ j. j == key) p q.0 0 q.1 (eq-eqb (get_or p q.0 0) key q.2)))
-
 module _ (f : Field) (s : Shares) (small : IsShares s) where
   -- the number of a node leads to its place
   node_at : (tet : List Vertex) → IsLatticeTet f.dims tet → (key : ℕ) → occurs (tet_pieces f.dims (states f s) tet) key ≡ true →
@@ -103,7 +95,7 @@ module _ (f : Field) (s : Shares) (small : IsShares s) where
       here i lt = omega (arith, four)
 
       occurs_key : (i : ℕ) → i < length p → occurs (tet_pieces f.dims (states f s) tet) (get_or p i 0) ≡ true
-      occurs_key i lt = occurs_at (tet_pieces f.dims (states f s) tet) p (get_or p i 0) h (has_at p i 0 lt)
+      occurs_key i lt = occurs_in (tet_pieces f.dims (states f s) tet) p (get_or p i 0) h (has_at p i 0 lt)
 
       numbers : All (λ n. n < length (mesh f s).places) (map (number_of (node_keys f.dims (states f s))) p)
       numbers = λ i z lt.

@@ -3,11 +3,9 @@ use Rattle.std.proofs.Common.{◌≡◌, ℕ, ◌+◌, ◌*◌, ◌/◌, ◌%◌
 use Rattle.std.specs.Prelude.{if◌then◌else◌, option_and_then, unwrap_or}
 use Rattle.std.proofs.lemmas.Bool.{ltb-true}
 use Rattle.std.proofs.lemmas.Bool.Decides.{nat_tests}
-use Rattle.std.proofs.lemmas.List.{get_or-map}
 use Rattle.definitions.specs.declared.Corner.{Corner}
 use Rattle.definitions.specs.declared.Corner.TheVariants.{Whole, Cut}
 use Rattle.definitions.specs.declared.Vertex.{Vertex}
-use Rattle.definitions.specs.declared.State.TheVariants as state
 use Rattle.definitions.specs.Cuts.{cut_number}
 use Rattle.definitions.specs.Lattice.{InDomain, direction, id, neighbour, step, vertex, vertex_at, vertices}
 use Rattle.definitions.specs.Mesh.{edge_cut, node_place, occurs, state_at, tet_pieces}
@@ -22,9 +20,10 @@ use Rattle.lattice_laws.proofs.EdgeSteps.{direction_of_step, step_to}
 use Rattle.lattice_laws.proofs.Vertices.{vertex_at-id}
 use Rattle.node_laws.proofs.NodesOfATetrahedron.{in_slots, kept_corner, id_slot}
 use Rattle.place_laws.proofs.Between.{leads_by}
-use Rattle.place_laws.proofs.StatePlaces.{number_small}
+use Rattle.snap_laws.proofs.StatesAre.{number_small}
 use Rattle.near_laws.proofs.Displacements.{state_about}
 use Rattle.near_laws.proofs.Spans.{StandsAmong, about_slot, on_edge}
+use Rattle.place_laws.proofs.NodePlaces.{state_at_id}
 
 module _ (f : Field) (s : Shares) (small : IsShares s) (tet : List Vertex) (t : IsLatticeTet f.dims tet) where
   inside : (a : ℕ) → a < 4 → InDomain f.dims (slot tet a)
@@ -42,17 +41,13 @@ module _ (f : Field) (s : Shares) (small : IsShares s) (tet : List Vertex) (t : 
       go None = omega arith
       go (Some w) = at_end w (cut_number (value f v) (value f w)) refl
 
-  state_at_id : (n : ℕ) → n < length (vertices f.dims) → state_at (states f s) n ≡ state_of f s (vertex_at f.dims n)
-  unfolding states
-  state_at_id n h = get_or-map (state_of f s) (vertices f.dims) n (vertex 0 0 0) state.Minus h
-
   -- a vertex in its state
   whole_among : (a n : ℕ) → a < 4 → n ≡ id f.dims (slot tet a) → StandsAmong tet (state_place (vertex_at f.dims n) (state_at (states f s) n))
   whole_among a n h e =
       let v = vertex_at-id f.dims (slot tet a) (inside a h) in
       let at : vertex_at f.dims n ≡ slot tet a = ap (vertex_at f.dims) e ∙ v.1 in
-      let is : state_at (states f s) n ≡ state_of f s (slot tet a) = state_at_id n (subst (λ m. m < length (vertices f.dims)) (sym e) v.0) ∙ ap (state_of f s) at in
-      subst (λ p. StandsAmong tet p) (λ i. state_place (sym at i) (sym is i)) (about_slot tet a (state_place (slot tet a) (state_of f s (slot tet a))) h (state_about f s small (slot tet a)))
+      let is : state_at (states f s) n ≡ state_of f s (slot tet a) = state_at_id f s n (subst (λ m. m < length (vertices f.dims)) (sym e) v.0) ∙ ap (state_of f s) at in
+      subst (λ p. StandsAmong tet p) (λ i. state_place (sym at i) (sym is i)) (about_slot tet a (state_place (slot tet a) (state_of f s (slot tet a))) h (state_about f s small (slot tet a) (inside a h)))
 
   -- the cut on an edge
   cut_among : (a b n : ℕ) → a < b → b < 4 → n ≡ id f.dims (slot tet a) → (k : ℕ) → k ≤ 4096 → StandsAmong tet (cut_place (vertex_at f.dims n) (direction (slot tet a) (slot tet b)) k)

@@ -15,7 +15,7 @@ pub const DECIMALS: usize = 14;
 /// How many fractions there are.
 const PARTS: u64 = 8192;
 
-/// A point and the thirteen decimals of `parts`/8192.
+/// A point and the thirteen decimals of `parts`/8192: the first 14 bytes are these, and `parts` is below 8192.
 #[derive(Clone, Copy)]
 pub struct Fraction {
     bytes: [u8; FRACTION_WIDTH],
@@ -68,7 +68,7 @@ impl Fraction {
     }
 }
 
-/// The texts of the fractions that were asked for.
+/// The texts of the fractions that were asked for. There are always [`PARTS`] texts.
 #[derive(Drop)]
 pub struct Fractions {
     slots: Vec<Fraction>,

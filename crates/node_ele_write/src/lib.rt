@@ -2,6 +2,12 @@
 //! port of a desk.
 //!
 //! A [`Pen`] makes a line in a buffer that is used again, from texts of numbers and fractions that are kept.
+//!
+//! ```rust
+//! let mut pen = Pen::new(alloc)?;
+//! pen.ele_line(&mut out, 23, [7, 12, 14, 13])?;
+//! assert_eq!(rt; out.as_slice(), b"23 7 12 14 13\n".as_slice());
+//! ```
 #![tactic(auto)]
 
 mod fault;
@@ -15,6 +21,7 @@ mod text;
 mod texts;
 
 pub use fault::PutFault;
+pub use line::{Line, ROOM};
 pub use pen::Pen;
 pub use put::{WriteFault, put_all};
 pub use report::report_text;

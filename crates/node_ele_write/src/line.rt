@@ -15,6 +15,8 @@ pub const FRACTION: u64 = 1_220_703_125;
 pub const ONE: u64 = 10_000_000_000_000;
 
 /// A text of at most [`ROOM`] bytes that grows at its front. Contracts see its bytes.
+///
+/// It is the bytes from `start` to the end of the buffer, and `start` is at most its length.
 #[derive(Drop)]
 pub struct Line {
     bytes: [u8; ROOM],

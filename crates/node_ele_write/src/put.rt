@@ -1,8 +1,8 @@
-ghost use Rattle.std.specs.Prelude.{◌≡◌, ◌≢◌, ◌++◌, List, ℕ, true, OnOk, OnErr};
+ghost use Rattle.std.specs.Prelude.{◌≡◌, true, OnOk, OnErr};
 ghost use Rattle.std.specs.Io.KnownBytes.{Appends};
 ghost use Rattle.st_base.specs.Causes.{HasCause};
 ghost use Rattle.st_base.specs.Desk.{AppendsPart};
-ghost use Rattle.formats.specs.declared.Port.{Port};
+ghost use Rattle.st_base.specs.Frames.{OnlyPort};
 
 use st_base::{Desk, Failed, Port};
 
@@ -18,10 +18,7 @@ pub fn put_all<D: Desk>(desk: &mut D, port: Port, bytes: &[u8]) -> Result<(), Wr
     ensures cause { HasCause (D.ports desk.old port).faults (D.ports desk.new port).faults result }
     ensures is_open { (D.ports desk.new port).is_open ≡ true }
     ensures name { (D.ports desk.new port).name ≡ (D.ports desk.old port).name }
-    ensures tried { D.tried desk.new ≡ D.tried desk.old }
-    ensures input { D.input desk.new ≡ D.input desk.old }
-    ensures others { (p : Port) → p ≢ port → D.ports desk.new p ≡ D.ports desk.old p }
-    ensures held { (n : List ℕ) → D.held desk.new n ≡ D.held desk.old n }
+    ensures apart { OnlyPort D.Desk port desk.old desk.new }
 {
     let mut from = 0usize;
     for _ in 0..bytes.len() {

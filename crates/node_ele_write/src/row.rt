@@ -16,6 +16,8 @@ pub const ROW: usize = 112;
 const FIRST: usize = 20;
 
 /// A line of numbers that grows at its end. Contracts see its bytes, and where they end in the buffer.
+///
+/// It is the bytes from `start` to `end`, which is not before `start` and at most the length of the buffer.
 #[derive(Drop)]
 pub struct Row {
     bytes: [u8; ROW],

@@ -11,7 +11,7 @@ pub const WIDTH: usize = 12;
 /// How many texts are held.
 const SLOTS: u32 = 1 << 15;
 
-/// A number as text behind a space: the first `len` of the bytes.
+/// A number as text behind a space: the first `len` of the bytes, at most 11, are the space and the digits of `number`.
 #[derive(Clone, Copy)]
 pub struct Text {
     bytes: [u8; WIDTH],
@@ -82,7 +82,7 @@ impl Text {
 }
 
 /// Texts of numbers that were asked for, each where its number has its place; a number that comes again
-/// soon is not made a text again.
+/// soon is not made a text again. There are always [`SLOTS`] texts.
 #[derive(Drop)]
 pub struct Texts {
     slots: Vec<Text>,

@@ -15,7 +15,8 @@ use Rattle.definitions.specs.Mesh.{all_pieces, occurs, tet_pieces}
 use Rattle.lattice_laws.proofs.KeyOrder.{pieces_by_table}
 use Rattle.lattice_laws.proofs.ListedTetrahedra.{lattice_tets_listed}
 use Rattle.lattice_laws.proofs.Lists.{any_flat_map}
-use Rattle.lattice_laws.proofs.Members.{place_of}
+use Rattle.lattice_laws.specs.Ascending.{Has}
+use Rattle.lattice_laws.proofs.Members.{place_of, any_of_member}
 use Rattle.lattice_laws.specs.FiniteTests.{every_case}
 use Rattle.lattice_laws.proofs.FiniteTests.{each_case}
 use Rattle.std.proofs.lemmas.Bool.{eq-eqb, eqb-true}
@@ -54,6 +55,10 @@ pub occurs_at : (ps : List (List ℕ)) (i j : ℕ) → i < length ps → j < len
 occurs_at ps i j hi hj =
     let key = get_or (get_or ps i []) j 0 in
     list_any_at (list_any (λ k. k == key)) ps i [] hi (list_any_at (λ k. k == key) (get_or ps i []) j 0 hj (eq-eqb key key refl))
+
+-- the same by members
+pub occurs_in : (ps : List (List ℕ)) (p : List ℕ) (key : ℕ) → Has p ps → Has key p → occurs ps key ≡ true
+occurs_in ps p key h k = any_of_member (list_any (λ k. k == key)) p ps h (any_of_member (λ k. k == key) key p k (eq-eqb key key refl))
 
 -- how many pieces a lattice tetrahedron has follows from its signs
 pub piece_counts_by_signs : PieceCountsBySigns

@@ -1,6 +1,6 @@
 -- A node of a piece stands on its moved vertex, or on the cut of its edge, whose ends are not moved.
 use Rattle.std.specs.Prelude.{ℕ, ◌+◌, ◌*◌, ◌/◌, ◌%◌, ◌<◌, ◌≤◌, max, min, Bool, true, false, ◌&&◌, ◌==◌, nat_lt, List, [], ◌∷◌, length, map, if◌then◌else◌, Option, Some, None, option_and_then, unwrap_or, slice_index, IsSomeAnd}
-use Rattle.std.proofs.Common.{◌≡◌, refl, sym, ap, subst, ◌∙◌, arith, inl, inr}
+use Rattle.std.proofs.Common.{◌≡◌, refl, sym, ap, subst, ◌∙◌, arith}
 use Rattle.std.specs.List.{list_any, list_all}
 use Rattle.std.proofs.Math.IntN.{ℤ, pos, ◌+ℤ◌, ◌*ℤ◌, neg_ℤ}
 use Rattle.std.proofs.lemmas.Bool.{eqb-true, eq-eqb, ltb-true}
@@ -30,10 +30,10 @@ use Rattle.lattice_laws.specs.Ascending.{Has}
 use Rattle.lattice_laws.specs.FiniteTests.{every_case}
 use Rattle.lattice_laws.specs.Vectors.{Vector, vector, origin, ◌+ᵥ◌, ◌*ᵥ◌}
 use Rattle.lattice_laws.specs.Kinds.{Kind, vector_of}
-use Rattle.lattice_laws.proofs.Booleans.{both_true, or_left, or_right}
+use Rattle.lattice_laws.proofs.Booleans.{both_true}
 use Rattle.lattice_laws.proofs.FiniteTests.{each_case}
 use Rattle.lattice_laws.proofs.Lists.{all_at_member}
-use Rattle.lattice_laws.proofs.Members.{has_map}
+use Rattle.lattice_laws.proofs.Members.{has_map, any_of_member}
 use Rattle.lattice_laws.proofs.EdgeSteps.{step_to, direction_of_step}
 use Rattle.lattice_laws.proofs.LaterNeighbours.{neighbour_led}
 use Rattle.lattice_laws.proofs.Vertices.{vertex_at-id, domain_in}
@@ -75,12 +75,6 @@ piece_is signs p len m =
 
 -- ---- a node's number leads to its place
 
--- a test of a member finds it
-pub any_of_member : {X : Type 0} (t : X → Bool) (x : X) (xs : List X) → Has x xs → t x ≡ true → list_any t xs ≡ true
-any_of_member t x [] m e = absurd m
-any_of_member t x (y ∷ ys) (inl p) e = or_left (t y) (list_any t ys) (ap t p ∙ e)
-any_of_member t x (y ∷ ys) (inr m) e = or_right (t y) (list_any t ys) (any_of_member t x ys m e)
-
 module _ (f : Field) (s : Shares) where
   -- the key of a node of a piece occurs
   pub key_occurs : (tet : List Vertex) → IsLatticeTet f.dims tet → (p : List Corner) (c : Corner) → Has p (case_pieces (signs_of f s tet)) → Has c p
@@ -96,7 +90,7 @@ module _ (f : Field) (s : Shares) where
   key_below key o = keys_are_below f.dims (states f s) key (states_are_padded f s) o
 
   -- the place of a number is that of its key
-  place_of_number : (key : ℕ) → occurs (all_pieces f.dims (states f s)) key ≡ true → place_at (mesh f s).places (number_of (node_keys f.dims (states f s)) key) ≡ node_place f (states f s) key
+  pub place_of_number : (key : ℕ) → occurs (all_pieces f.dims (states f s)) key ≡ true → place_at (mesh f s).places (number_of (node_keys f.dims (states f s)) key) ≡ node_place f (states f s) key
   unfolding mesh
   place_of_number key o =
       let n = numbers_lead_back f.dims (states f s) in

@@ -30,6 +30,7 @@ use Rattle.parent_laws.specs.Parents.{signs_of, node_number, tets_of, StandsAt, 
 use Rattle.parent_laws.specs.Laws.{TetsArePieces, TetsHaveParents}
 use Rattle.parent_laws.proofs.Everywhere.{at_vertex}
 use Rattle.parent_laws.proofs.LatticeVectors.{vertex_on_lattice}
+use Rattle.lattice_laws.proofs.Lists.{four_of}
 
 -- ---- lists
 map_of_flat_map : {X Y Z : Type 0} (g : Y → Z) (f : X → List Y) (xs : List X) → map g (flat_map f xs) ≡ flat_map (λ x. map g (f x)) xs
@@ -44,14 +45,6 @@ flat_map_same f g (x ∷ xs) h = λ i. h x (inl refl) i ++ flat_map_same f g xs 
 map_same : {X Y : Type 0} (f g : X → Y) (xs : List X) → ((x : X) → Has x xs → f x ≡ g x) → map f xs ≡ map g xs
 map_same f g [] h = refl
 map_same f g (x ∷ xs) h = λ i. h x (inl refl) i ∷ map_same f g xs (λ y m. h y (inr m)) i
-
-pub four_of : {X : Type 0} (xs : List X) → length xs ≡ 4 → (a : X) × (b : X) × (c : X) × (d : X) × (xs ≡ a ∷ b ∷ c ∷ d ∷ [])
-four_of (a ∷ b ∷ c ∷ d ∷ []) h = (a, b, c, d, refl)
-four_of [] h = absurd (omega arith)
-four_of (a ∷ []) h = absurd (omega arith)
-four_of (a ∷ b ∷ []) h = absurd (omega arith)
-four_of (a ∷ b ∷ c ∷ []) h = absurd (omega arith)
-four_of (a ∷ b ∷ c ∷ d ∷ e ∷ more) h = absurd (omega arith)
 
 module _ (f : Field) (s : Shares) where
   -- the state of a vertex, by its id

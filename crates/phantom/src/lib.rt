@@ -95,6 +95,11 @@ fn samples(alloc: Global, n: u32, seed: u64) -> Result<Vec<i64>, AllocError>
 
 /// The volume of `n` samples on each axis with this seed: a ball that falls off from its middle, less a
 /// noise from 0 to 15. Samples are from 49 to 255.
+///
+/// ```rust
+/// let volume = phantom(alloc, 1, 7)?;
+/// assert_eq!(rt; volume.samples(), [248].as_slice());
+/// ```
 pub fn phantom(alloc: Global, n: u32, seed: u64) -> Result<Volume, NoMemory>
     requires positive { 1 ≤ n }
     requires size { n ≤ 128 }
@@ -108,27 +113,5 @@ pub fn phantom(alloc: Global, n: u32, seed: u64) -> Result<Volume, NoMemory>
     match samples(alloc, n, seed) {
         Ok(samples) => Ok(Volume::new(dims, 1, Kind::Uchar, samples)),
         Err(_) => Err(NoMemory),
-    }
-}
-
-#[cfg(test)]
-mod tests {
-    use super::*;
-
-    #[test]
-    fn draws_from_the_seed(rt: HostRuntime) -> Result<(), NoMemory> {
-        let seven = phantom(rt.alloc(), 1, 7)?;
-        assert_eq!(rt; seven.samples(), [248].as_slice());
-        let zero = phantom(rt.alloc(), 1, 0)?;
-        assert_eq!(rt; zero.samples(), [254].as_slice());
-        Ok(())
-    }
-
-    #[test]
-    fn stays_in_range(rt: HostRuntime) -> Result<(), NoMemory> {
-        let volume = phantom(rt.alloc(), 5, 3)?;
-        assert_eq!(rt; volume.samples().len(), 125);
-        assert!(rt; volume.samples().iter().all(|z| 49 <= *z && *z <= 255));
-        Ok(())
     }
 }

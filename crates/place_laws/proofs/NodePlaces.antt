@@ -19,10 +19,11 @@ use Rattle.lattice_laws.proofs.Sublists.{all_by_place}
 use Rattle.lattice_laws.proofs.Vertices.{domain_out}
 use Rattle.place_laws.specs.Inside.{StandsInside, NodesStandInside}
 use Rattle.place_laws.proofs.Between.{leads_by, between, no_part_inside}
-use Rattle.place_laws.proofs.StatePlaces.{number_small, state_inside}
+use Rattle.snap_laws.proofs.StatesAre.{number_small}
+use Rattle.place_laws.proofs.StatePlaces.{state_inside}
 
 module _ (f : Field) (s : Shares) where
-  state_at_id : (n : ℕ) → n < length (vertices f.dims) → state_at (states f s) n ≡ state_of f s (vertex_at f.dims n)
+  pub state_at_id : (n : ℕ) → n < length (vertices f.dims) → state_at (states f s) n ≡ state_of f s (vertex_at f.dims n)
   unfolding states
   state_at_id n h = get_or-map (state_of f s) (vertices f.dims) n (vertex 0 0 0) state.Minus h
 

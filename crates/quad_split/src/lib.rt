@@ -19,6 +19,11 @@ pub enum Diagonal {
 }
 
 /// The diagonal through the least key.
+///
+/// ```
+/// let ring = [5, 2, 9, 7];
+/// assert_eq!(split_quad(ring), Diagonal::Second);
+/// ```
 pub fn split_quad(ring: [u32; 4]) -> Diagonal
     requires { AllPairs (λ a b. a ≢ b) ring }
     ensures first { (result ≡ Diagonal.First) ↔ (min (slice_index ring 0) (slice_index ring 2) < min (slice_index ring 1) (slice_index ring 3)) }
@@ -195,27 +200,4 @@ fn in_order(order: [u8; 6], triangles: [[u8; 3]; 3]) -> [[u8; 4]; 3]
     ensures { result ≡ in_order_of order triangles }
 {
     pieces_in_order!(order triangles; 1 2 3, 1 2 4, 1 2 5, 1 3 4, 1 3 5, 1 4 5, 2 3 4, 2 3 5, 2 4 5, 3 4 5)
-}
-
-#[cfg(test)]
-mod tests {
-    use super::*;
-
-    #[test]
-    fn quadrilaterals_and_solids(rt: HostRuntime) {
-        assert_eq!(rt; split_quad([5, 9, 2, 7]), Diagonal::First);
-        assert_eq!(rt; split_quad([5, 2, 9, 7]), Diagonal::Second);
-        assert_eq!(rt;
-            split_prism([1, 2, 3, 4, 5, 6]),
-            [[0, 1, 2, 5], [0, 1, 4, 5], [0, 3, 4, 5]]
-        );
-        assert_eq!(rt;
-            split_pyramid([1, 2, 3, 4, 5]),
-            [[0, 1, 2, 3], [0, 1, 3, 4]]
-        );
-        assert_eq!(rt;
-            split_pyramid([5, 1, 2, 3, 4]),
-            [[1, 2, 3, 0], [1, 3, 4, 0]]
-        );
-    }
 }

@@ -83,6 +83,11 @@ fn signed_four(number: u32) -> i64
 
 /// The number that the first bytes are: two's complement where the type is signed, and the most
 /// significant byte first where `big` says so.
+///
+/// ```rust
+/// assert_eq!(rt; decode(Kind::Short, true, &[0xff, 0xfe]), -2);
+/// assert_eq!(rt; decode(Kind::Ushort, false, &[0xff, 0xfe]), 65279);
+/// ```
 #[tactic(auto, unfolding(formats::specs::Samples::sample_number))]
 pub fn decode(kind: Kind, big: bool, bytes: &[u8]) -> i64
     requires { sample_bytes kind ≤ length bytes.now }

@@ -1,4 +1,3 @@
-pub mod Sizes
 pub mod ValuesAt
 pub mod Sums
 pub mod SignCounts

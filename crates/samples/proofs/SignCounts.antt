@@ -1,8 +1,8 @@
 -- Counts of signs, by one more and by the whole, and how large they are.
-use Rattle.std.proofs.Common.{◌≡◌, ℕ, suc, ◌+◌, ◌-◌, ◌*◌, ◌%◌, ◌/◌, ◌^◌, ◌≤◌, Bool, true, false, cond, refl, sym, ◌∙◌, subst, arith}
+use Rattle.std.proofs.Common.{◌≡◌, ℕ, suc, ◌+◌, ◌-◌, ◌*◌, ◌%◌, ◌/◌, ◌^◌, ◌<◌, ◌≤◌, Bool, true, false, cond, refl, sym, ◌∙◌, subst, arith}
 use Rattle.std.specs.Prelude.{sum_by}
 use Rattle.std.specs.List.{range_with_len}
-use Rattle.std.proofs.Math.Nat.{mul-le-mul, mul-le-mul_right}
+use Rattle.std.proofs.Math.Nat.{mul-le-mul_right}
 use Rattle.std.proofs.Math.IntN.{ℤ, pos, ◌*ℤ◌}
 use Rattle.definitions.specs.declared.Sign.{Sign}
 use Rattle.definitions.specs.Lattice.{IsDims, layers, vertex}
@@ -11,7 +11,7 @@ use Rattle.definitions.specs.Values.{Field, corner_difference, cube_sum, value, 
 use Rattle.formats.specs.Texts.{sign_count}
 use Rattle.samples.specs.declared.count.Signs.{Signs}
 use Rattle.samples.specs.SignCounts.{signs_by, signs_below, both, AreAtMost, one, value_in_row, row_count, layer_count}
-use Rattle.samples.proofs.Sizes.{nx_within, nz_within}
+use Rattle.lattice_counts.proofs.Sizes.{even_small, nx_small, nz_small}
 use Rattle.samples.proofs.Sums.{sum_by-range_more, sum_by-range_at_most, sum_over_vertices}
 use Rattle.samples.proofs.ValuesAt.{corner_value, centre_value}
 
@@ -32,36 +32,24 @@ all_signs f = λ t. record { plus = whole is_plus t; zero = whole is_zero t; min
     whole : (p : Sign → Bool) → sum_by (λ h. layer_count f h p) (range_with_len 0 (layers f.dims)) ≡ sign_count p f
     whole p = sym (sum_over_vertices (λ v. cond (p (sign_of (value f v))) 1 0) f.dims)
 
--- of an even layer by corners, and of an odd one by centres
-pub corner_row : (f : Field) (h j : ℕ) → h % 2 ≡ 0 → signs_below (f.dims.nx + 2) (λ i. one (pos 8 *ℤ corner_difference f i j (h / 2))) ≡ signs_by (row_count f h j)
-corner_row f h j even = λ t. signs_by (λ p. sum_by (λ i. one (at i t) p) (range_with_len 0 (len t)))
+-- the value at a vertex of an even layer, at a corner, and of an odd one, at the centre of a cube
+pub corner_in_row : (f : Field) (h j i : ℕ) → h % 2 ≡ 0 → pos 8 *ℤ corner_difference f i j (h / 2) ≡ value_in_row f h j i
+corner_in_row f h j i even = sym (corner_value f i j (h / 2)) ∙ (λ t. value f (vertex (layer t) (place j t) (place i t)))
   where
-    at : (i : ℕ) → pos 8 *ℤ corner_difference f i j (h / 2) ≡ value_in_row f h j i
-    at i = sym (corner_value f i j (h / 2)) ∙ (λ t. value f (vertex (layer t) (place j t) (place i t)))
-      where
-        layer : 2 * (h / 2) ≡ h
-        layer = omega arith
+    layer : 2 * (h / 2) ≡ h
+    layer = omega arith
 
-        place : (n : ℕ) → 2 * n ≡ 2 * n + h % 2
-        place n = omega arith
+    place : (n : ℕ) → 2 * n ≡ 2 * n + h % 2
+    place n = omega arith
 
-    len : f.dims.nx + 2 ≡ f.dims.nx + 2 - h % 2
-    len = omega arith
-
-pub centre_row : (f : Field) (h j : ℕ) → h % 2 ≡ 1 → signs_below (f.dims.nx + 1) (λ i. one (cube_sum f i j (h / 2))) ≡ signs_by (row_count f h j)
-centre_row f h j odd = λ t. signs_by (λ p. sum_by (λ i. one (at i t) p) (range_with_len 0 (len t)))
+pub centre_in_row : (f : Field) (h j i : ℕ) → h % 2 ≡ 1 → cube_sum f i j (h / 2) ≡ value_in_row f h j i
+centre_in_row f h j i odd = sym (centre_value f i j (h / 2)) ∙ (λ t. value f (vertex (layer t) (place j t) (place i t)))
   where
-    at : (i : ℕ) → cube_sum f i j (h / 2) ≡ value_in_row f h j i
-    at i = sym (centre_value f i j (h / 2)) ∙ (λ t. value f (vertex (layer t) (place j t) (place i t)))
-      where
-        layer : 2 * (h / 2) + 1 ≡ h
-        layer = omega arith
+    layer : 2 * (h / 2) + 1 ≡ h
+    layer = omega arith
 
-        place : (n : ℕ) → 2 * n + 1 ≡ 2 * n + h % 2
-        place n = omega arith
-
-    len : f.dims.nx + 1 ≡ f.dims.nx + 2 - h % 2
-    len = omega arith
+    place : (n : ℕ) → 2 * n + 1 ≡ 2 * n + h % 2
+    place n = omega arith
 
 -- ---- how large they are
 
@@ -84,12 +72,10 @@ few_values n g = few_below n 1 n (λ i. one (g i)) (λ i p. single (p (sign_of (
 
 module _ (f : Field) (sizes : IsDims f.dims) where
   square_within : (f.dims.ny + 2) * (f.dims.nx + 2) ≤ 2 ^ 26
-  square_within =
-      let square : (f.dims.nx + 2) * (f.dims.ny + 2) ≤ (f.dims.nx + 2) * (f.dims.ny + 2) = omega arith in
-      let z : 1 ≤ f.dims.nz + 2 = omega arith in
-      let cube : (f.dims.nx + 2) * (f.dims.ny + 2) * 1 ≤ (f.dims.nx + 2) * (f.dims.ny + 2) * (f.dims.nz + 2) = mul-le-mul square z in
-      let within : (f.dims.nx + 2) * (f.dims.ny + 2) * (f.dims.nz + 2) ≤ 2 ^ 26 = sizes.within in
-      omega arith
+  square_within = let e = even_small f.dims sizes in swapped (f.dims.nx + 2) (f.dims.ny + 2) e
+    where
+      swapped : (a b : ℕ) → a * b < 2 ^ 25 → b * a ≤ 2 ^ 26
+      swapped a b h = omega arith
 
   row_at_most : (h j : ℕ) (p : Sign → Bool) → row_count f h j p ≤ f.dims.nx + 2
   row_at_most h j p =
@@ -110,7 +96,7 @@ module _ (f : Field) (sizes : IsDims f.dims) where
   -- a row
   pub few_in_row : (h j : ℕ) → AreAtMost (2 ^ 26) (signs_by (row_count f h j))
   few_in_row h j =
-      let high = nx_within f.dims sizes in
+      let high = nx_small f.dims sizes in
       let n = f.dims.nx + 2 - h % 2 in
       at_most n (2 ^ 26) _ (signs_below n (λ i. one (value_in_row f h j i))) refl (few_values n (value_in_row f h j)) (omega arith)
 
@@ -124,5 +110,5 @@ module _ (f : Field) (sizes : IsDims f.dims) where
   -- layers
   pub few_layers : (n : ℕ) → n ≤ layers f.dims → AreAtMost (2 ^ 53) (signs_below n (layer_count f))
   few_layers n below =
-      let high = nz_within f.dims sizes in
+      let high = nz_small f.dims sizes in
       few_below n (2 ^ 26) (2 ^ 53) (layer_count f) (λ h p. rows_within h (f.dims.ny + 2 - h % 2) p (omega arith)) (omega arith)

@@ -1,12 +1,12 @@
-ghost use Rattle.std.specs.Prelude.{◌≡◌, ◌+◌, ◌-◌, ◌*◌, ◌%◌, ◌<◌, ◌≤◌, ◌^◌, pos, ◌*ℤ◌};
+ghost use Rattle.std.specs.Prelude.{◌≡◌, ◌+◌, ◌-◌, ◌*◌, ◌/◌, ◌%◌, ◌<◌, ◌≤◌, ◌^◌};
 ghost use Rattle.definitions.specs.Lattice.{layers};
 ghost use Rattle.definitions.specs.Stencils.{is_plus, is_zero, is_minus};
-ghost use Rattle.definitions.specs.Values.{corner_difference, cube_sum};
 ghost use Rattle.formats.specs.Texts.{sign_count};
-ghost use Rattle.samples.specs.SignCounts.{signs_by, signs_below, both, AreAtMost, one, row_count, layer_count};
+ghost use Rattle.lattice_counts.specs.Counts.{row_len};
+ghost use Rattle.samples.specs.SignCounts.{signs_by, both, AreAtMost, one, row_count, layer_count};
 
 use crate::field::Field;
-use st_base::Dims;
+use bcc_lattice::{columns, layers, rows};
 
 /// How many vertices are Plus, Zero and Minus.
 #[derive(Clone, Copy, Debug, PartialEq, Eq)]
@@ -47,26 +47,30 @@ fn both(signs: Signs, others: Signs) -> Signs
     }
 }
 
-fn count_corner_row(field: &Field, j: u32, k: u32) -> Signs
-    ensures { result ≡ signs_below (field.now.dims.nx + 2) (λ i. one (pos 8 *ℤ corner_difference field.now i j k)) }
+/// The signs of row `j` of an even layer, whose vertices are corners.
+fn count_corner_row(field: &Field, h: u32, j: u32) -> Signs
+    requires even { h % 2 ≡ 0 }
+    ensures { result ≡ signs_by (row_count field.now h j) }
 {
-    let Dims { nx, .. } = field.dims();
+    let k = h / 2;
     let mut signs = NONE;
-    for i in 0..nx + 2 {
+    for i in 0..columns(field.dims(), h) {
         signs = both(signs, one(8 * field.difference(i, j, k)));
     }
     signs
 }
 
-fn count_centre_row(field: &Field, j: u32, k: u32) -> Signs
-    requires j { j ≤ field.now.dims.ny }
-    requires k { k ≤ field.now.dims.nz }
-    ensures { result ≡ signs_below (field.now.dims.nx + 1) (λ i. one (cube_sum field.now i j k)) }
+/// The signs of row `j` of an odd layer, whose vertices are centres of cubes.
+fn count_centre_row(field: &Field, h: u32, j: u32) -> Signs
+    requires odd { h % 2 ≡ 1 }
+    requires layer { h / 2 ≤ field.now.dims.nz }
+    requires row { j ≤ field.now.dims.ny }
+    ensures { result ≡ signs_by (row_count field.now h j) }
 {
-    let Dims { nx, .. } = field.dims();
+    let k = h / 2;
     let mut signs = NONE;
     let mut near = field.side(0, j, k);
-    for i in 0..nx + 1 {
+    for i in 0..columns(field.dims(), h) {
         let far = field.side(i + 1, j, k);
         signs = both(signs, one(near + far));
         near = far;
@@ -76,13 +80,13 @@ fn count_centre_row(field: &Field, j: u32, k: u32) -> Signs
 
 fn count_row(field: &Field, h: u32, j: u32) -> Signs
     requires h { h < layers field.now.dims }
-    requires j { j < field.now.dims.ny + 2 - h % 2 }
+    requires j { j < row_len field.now.dims.ny h }
     ensures { result ≡ signs_by (row_count field.now h j) }
 {
     if h % 2 == 0 {
-        count_corner_row(field, j, h / 2)
+        count_corner_row(field, h, j)
     } else {
-        count_centre_row(field, j, h / 2)
+        count_centre_row(field, h, j)
     }
 }
 
@@ -90,9 +94,8 @@ fn count_layer(field: &Field, h: u32) -> Signs
     requires { h < layers field.now.dims }
     ensures { result ≡ signs_by (layer_count field.now h) }
 {
-    let Dims { ny, .. } = field.dims();
     let mut signs = NONE;
-    for j in 0..ny + 2 - h % 2 {
+    for j in 0..rows(field.dims(), h) {
         signs = both(signs, count_row(field, h, j));
     }
     signs
@@ -104,9 +107,8 @@ pub fn count_signs(field: &Field) -> Signs
     ensures zero { result.zero ≡ sign_count is_zero field.now }
     ensures minus { result.minus ≡ sign_count is_minus field.now }
 {
-    let Dims { nz, .. } = field.dims();
     let mut signs = NONE;
-    for h in 0..2 * nz + 3 {
+    for h in 0..layers(field.dims()) {
         signs = both(signs, count_layer(field, h));
     }
     signs

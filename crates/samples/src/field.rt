@@ -5,6 +5,7 @@ ghost use Rattle.samples.specs.Corners.{IsCorner, IsCube, corner_vertex, centre_
 ghost use Rattle.samples.specs.Rows.{row_start, is_row_inside, difference_along, edge_sum, side_sum};
 
 use crate::level::Level;
+use crate::sign::sign_of;
 use st_base::{Dims, NoMemory, Sign, Vertex, Volume};
 use std::alloc::Global;
 use std::marker::Model;
@@ -16,6 +17,9 @@ use std::marker::Model;
 /// negative where the region lies below the level. At a corner of the padding it is
 /// `-max(1, |difference at the nearest corner of the image|)`. The value at a corner is eight times its
 /// difference, and at the centre of a cube the sum over its eight corners.
+///
+/// The sizes are at least 1 and within the limit, and there is one difference for each sample, x fastest, each below
+/// 2^34 in size.
 #[derive(Drop)]
 pub struct Field {
     dims: Dims,
@@ -42,14 +46,18 @@ struct Row {
 
 impl Field {
     /// The field of an image at a level, of the region above it or below it.
+    ///
+    /// ```rust
+    /// let level = Level::new(1).expect(&rt, "a level");
+    /// let field = Field::new(alloc, &volume, level, false)?;
+    /// let value = field.value(Vertex { h: 2, y: 2, x: 2 });
+    /// ```
     pub fn new(alloc: Global, volume: &Volume, level: Level, below: bool) -> Result<Field, NoMemory>
         ensures { IfOk result (λ field. field ≡ field_of volume.now.dims volume.now.samples level below) }
     {
         let dims = volume.dims();
-        match differences(alloc, volume, level, below) {
-            Ok(differences) => Ok(Field { dims, differences }),
-            Err(fault) => Err(fault),
-        }
+        let differences = differences(alloc, volume, level, below)?;
+        Ok(Field { dims, differences })
     }
 
     /// The sizes of the image.
@@ -117,7 +125,7 @@ impl Field {
     }
 
     #[inline(always)]
-    #[tactic(auto, using(crate::proofs::Sizes::ny_within))]
+    #[tactic(auto, using(lattice_counts::proofs::Sizes::ny_small))]
     fn edge_inside(&self, i: u32, j: u32, k: u32) -> i64
         requires i_low { 1 ≤ i }
         requires j_low { 1 ≤ j }
@@ -134,7 +142,7 @@ impl Field {
     }
 
     #[inline(always)]
-    #[tactic(auto, using(crate::proofs::Sizes::nz_within))]
+    #[tactic(auto, using(lattice_counts::proofs::Sizes::nz_small))]
     fn side_inside(&self, i: u32, j: u32, k: u32) -> i64
         requires i_low { 1 ≤ i }
         requires j_low { 1 ≤ j }
@@ -152,7 +160,7 @@ impl Field {
 
     /// The same as `cube`, where the eight corners are of the image. It is eight reads.
     #[inline(always)]
-    #[tactic(auto, using(crate::proofs::Sizes::nx_within, crate::proofs::ValuesAt::cube_by_sides))]
+    #[tactic(auto, using(lattice_counts::proofs::Sizes::nx_small, crate::proofs::ValuesAt::cube_by_sides))]
     pub fn cube_inside(&self, i: u32, j: u32, k: u32) -> i64
         requires i_low { 1 ≤ i }
         requires j_low { 1 ≤ j }
@@ -168,7 +176,7 @@ impl Field {
     }
 
     #[inline]
-    #[tactic(auto, using(crate::proofs::Sizes::ny_within))]
+    #[tactic(auto, using(lattice_counts::proofs::Sizes::ny_small))]
     fn edge(&self, i: u32, j: u32, k: u32) -> i64
         requires { j ≤ self.now.dims.ny }
         ensures value { result ≡ edge_sum self.now i j k }
@@ -182,7 +190,7 @@ impl Field {
     /// The sum of the differences at the four corners `(i, j..=j + 1, k..=k + 1)`, which are one side
     /// of a cube.
     #[inline]
-    #[tactic(auto, using(crate::proofs::Sizes::nz_within))]
+    #[tactic(auto, using(lattice_counts::proofs::Sizes::nz_small))]
     pub fn side(&self, i: u32, j: u32, k: u32) -> i64
         requires j { j ≤ self.now.dims.ny }
         requires k { k ≤ self.now.dims.nz }
@@ -197,7 +205,7 @@ impl Field {
     /// The sum of the differences at the eight corners of the cube with the least corner `(i, j, k)`,
     /// counted from the padding corner.
     #[inline]
-    #[tactic(auto, using(crate::proofs::Sizes::nx_within, crate::proofs::ValuesAt::cube_by_sides))]
+    #[tactic(auto, using(lattice_counts::proofs::Sizes::nx_small, crate::proofs::ValuesAt::cube_by_sides))]
     pub fn cube(&self, i: u32, j: u32, k: u32) -> i64
         requires i { i ≤ self.now.dims.nx }
         requires j { j ≤ self.now.dims.ny }
@@ -324,16 +332,4 @@ fn padded(inside: bool, near: i64) -> i64
     ensures small { unsigned_abs result < 2 ^ 34 }
 {
     if inside { near } else { -near.abs().max(1) }
-}
-
-fn sign_of(value: i64) -> Sign
-    ensures { result ≡ sign_of value }
-{
-    if value > 0 {
-        Sign::Plus
-    } else if value == 0 {
-        Sign::Zero
-    } else {
-        Sign::Minus
-    }
 }

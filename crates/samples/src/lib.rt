@@ -4,7 +4,9 @@
 mod count;
 mod field;
 mod level;
+mod sign;
 
 pub use count::{Signs, count_signs};
 pub use field::Field;
 pub use level::Level;
+pub use sign::sign_of;

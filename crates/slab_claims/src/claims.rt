@@ -13,6 +13,8 @@ use std::marker::Model;
 use std::snapshot::Snapshot;
 
 /// A counter from which seats draw the numbers of slabs, from 0 on. Threads share it by reference.
+///
+/// Its table has one word, the number to be drawn next, and was made for as many slabs as it says.
 #[derive(Drop)]
 pub struct Claims {
     table: Table<u8, View, (u32, u32), DrawsOnce, Global>,
@@ -31,6 +33,8 @@ impl Model for Claims {
 }
 
 /// The right of one thread to draw. It has no bytes.
+///
+/// Its share of the seats is at least 1.
 #[derive(Drop)]
 pub struct ClaimSeat {
     seat: Seat<u8, View>,
@@ -56,7 +60,9 @@ pub enum Claim {
     NoMore,
 }
 
-/// The token of the end: each number below the slabs was drawn, once. It has no bytes.
+/// The token of the end. It has no bytes.
+///
+/// Each number below the slabs stands in its list, once.
 #[derive(Drop)]
 pub struct Drawn {
     last: Snapshot<Seat<u8, View>>,
@@ -94,6 +100,12 @@ fn draw(shared: &Shared<u8, View, (u32, u32), DrawsOnce>, seat: &mut Seat<u8, Vi
 
 impl Claims {
     /// A counter of `slabs` numbers, and its first seat, which has all of `seats` shares, 1 to 64.
+    ///
+    /// ```
+    /// let (claims, mut seat) = Claims::new(alloc, 3, 2)?;
+    /// let other = claims.split(&mut seat); // for another thread
+    /// assert_eq!(claims.claim(&mut seat), Claim::Slab(0));
+    /// ```
     pub fn new(alloc: Global, slabs: u32, seats: u32) -> Result<(Claims, ClaimSeat), NoMemory>
         requires { (1 ≤ seats) × (seats ≤ 64) }
         ensures claims { IfOk result (λ r. (r.0.slabs ≡ slabs) × (r.0.seats ≡ seats)) }

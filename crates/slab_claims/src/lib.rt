@@ -8,7 +8,5 @@
 
 mod claims;
 mod rule;
-#[cfg(test)]
-mod tests;
 
 pub use claims::{Claim, ClaimSeat, Claims, Drawn};

@@ -14,7 +14,7 @@ use Rattle.list_words.proofs.Sums.{times-flat_map, length-flat_map_sum, sum-flat
 use Rattle.slab_core.specs.States.{WorkerState, CoreState, new_worker}
 use Rattle.slab_core.specs.Steps.{slab_count, slabs_done, reach_words}
 use Rattle.slab_core.specs.Sound.{all_drawn, IsSoundWorker, IsSound}
-use Rattle.slab_core.specs.Results.{all_made, all_done, FewMade, AllGone, IsDone}
+use Rattle.slab_core.specs.Results.{all_made, all_done, LooksAgree, FewMade, AllGone, IsDone}
 
 pub sums_rise : {X : Type 0} (f g : X → ℕ) (xs : List X) → All (λ x. f x ≤ g x) xs → sum_by f xs ≤ sum_by g xs
 sums_rise f g [] all = omega arith
@@ -113,6 +113,9 @@ few_made s k =
   where
     chain : (a b c d e f g : ℕ) → a ≡ b → b ≤ c → d ≡ c → d ≡ e → e ≤ f → f ≤ g → a ≤ g
     chain a b c d e f g p q r s t u = omega arith
+
+pub looks_agree : (s : CoreState) → IsSound s → LooksAgree s
+looks_agree s k = All-weaker (IsSoundWorker s) (λ (v : WorkerState). (h : ℕ) → has h v.down ≡ true → has h v.seen ≡ false) (λ v f. f.down) s.workers k.each
 
 -- who is gone has done each slab that it drew, once
 same_times : (s : CoreState) (k : WorkerState) (j : ℕ) → IsSoundWorker s k → k.gone ≡ true → times j k.drawn ≤ 1 → times j (slabs_done k) ≡ times j k.drawn

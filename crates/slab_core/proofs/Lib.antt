@@ -1,4 +1,3 @@
-pub mod WorkedScripts
 pub mod Layers
 pub mod Workers
 pub mod Keeps

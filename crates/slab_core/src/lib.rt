@@ -14,6 +14,3 @@ mod worker;
 
 pub use event::Event;
 pub use machine::Core;
-
-#[cfg(test)]
-mod tests;

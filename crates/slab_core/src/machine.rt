@@ -10,6 +10,9 @@ use std::alloc::Global;
 use std::marker::Model;
 
 /// The concurrent core: a state that events led to, each allowed where it happened.
+///
+/// Each slab that is drawn was drawn once, each word is 0 or the one that is wanted, and each layer whose flag is up
+/// has all of its words.
 #[derive(Drop)]
 pub struct Core {
     state: State,
@@ -30,10 +33,16 @@ impl Core {
     ghost use Rattle.slab_core.specs.States.{new_core};
     ghost use Rattle.slab_core.specs.Steps.{allowed, after, after_all, count_allowed};
     ghost use Rattle.slab_core.specs.Sound.{IsSound};
-    ghost use Rattle.slab_core.specs.Results.{FewMade, AllGone, IsDone};
+    ghost use Rattle.slab_core.specs.Results.{LooksAgree, FewMade, AllGone, IsDone};
 
     /// The core of 1 to 64 workers before any event: no slab is drawn, all words are 0 and all flags
     /// are down. `wanted` has one code per vertex, by id.
+    ///
+    /// ```
+    /// let mut core = Core::new(alloc, &layout, wanted, 1)?;
+    /// let happened = core.run(&[Event::Claim { w: 0 }, Event::Read { w: 0, id: 0 }])?;
+    /// assert_eq!(happened, 1); // layer 0 was not seen
+    /// ```
     pub fn new(
         alloc: Global,
         layout: &Layout,
@@ -69,6 +78,7 @@ impl Core {
     /// What holds of every core, whichever events led to it. It does nothing.
     pub fn holds(&self)
         ensures sound { IsSound self.now }
+        ensures looks { LooksAgree self.now }
         ensures few_made { FewMade self.now }
         ensures done { AllGone self.now → IsDone self.now }
     {
@@ -82,6 +92,7 @@ impl Core {
         ensures after { IfOk result (λ n. self.new ≡ after_all (take n events.now) self.old) }
         ensures some_of_them { OnErr result ((n : ℕ) × (n ≤ count_allowed events.now self.old) × (self.new ≡ after_all (take n events.now) self.old)) }
         ensures sound { IsSound self.new }
+        ensures looks { LooksAgree self.new }
         ensures few_made { FewMade self.new }
         ensures done { AllGone self.new → IsDone self.new }
     {

@@ -1,4 +1,3 @@
-pub mod Results
 pub mod Drawing
 pub mod Placing
 pub mod Totals

@@ -1,35 +1,18 @@
 -- Places that are filled one after another.
-use Rattle.std.proofs.Common.{◌≡◌, ◌⊎◌, ℕ, suc, ◌+◌, ◌<◌, arith, sym, ◌∙◌, ap, subst, inl, inr, List, [], ◌∷◌, ◌++◌, length, length-append, get_or, take, drop, set, Option, Some, None, All, Bool, true, false, refl}
+use Rattle.std.proofs.Common.{◌≡◌, ◌⊎◌, ℕ, ◌+◌, ◌<◌, arith, sym, ◌∙◌, ap, subst, inl, inr, List, [], ◌∷◌, ◌++◌, length, length-append, get_or, set, Option, Some, None, All, Bool, true, false, refl}
 use Rattle.std.specs.Option.{ForSome}
-use Rattle.std.proofs.lemmas.List.{append-nil, drop_all, get_or-append-add, get_or-set_other, get_or-set_same, get_or_append_left, length-set, take_all}
+use Rattle.std.proofs.lemmas.List.{get_or-append-add, get_or-set_other, get_or-set_same, get_or_append_left, length-set}
 use Rattle.std.specs.Prelude.{IfOk, Result, nat_lt}
 use Rattle.std.proofs.lemmas.Bool.Decides.{nat_tests}
 use Rattle.st_base.specs.declared.NoMemory.{NoMemory}
 use Rattle.list_words.specs.Words.{EachOnce, has}
-use Rattle.std.proofs.lemmas.List.Sums.{sum_by-cons}
 use Rattle.list_words.proofs.Lists.{same_or_other, times_has}
 use Rattle.list_words.proofs.Tests.{when_true}
 use Rattle.slab_emit.specs.declared.lines.Lines.{Lines}
 use Rattle.slab_emit.specs.declared.part.Part.{Part}
-use Rattle.slab_emit.specs.declared.worker.Worker.{Worker}
 use Rattle.slab_emit.specs.Parts.{AreParts, IsPart}
 use Rattle.slab_emit.specs.Sources.{SourceValue}
-use Rattle.slab_emit.specs.Workers.{FitPlaces, IsFilled, shares_of}
-
--- what a vector has after its slice was written
-pub written : {X : Type 0} (xs ys : List X) (n : ℕ) → n ≡ length xs → length ys ≡ length xs → take n (xs ++ drop (length xs) ys) ≡ xs
-written {X} xs ys n e f = ap (λ (l : List X). take n (xs ++ l)) (drop_all (length xs) ys (omega arith)) ∙ ap (λ (l : List X). take n l) (append-nil xs) ∙ take_all n xs (omega arith)
-
-pub shares_same : (vs ws : List Worker) → length ws ≡ length vs → ((i : ℕ) (d : Worker) → i < length vs → (get_or ws i d).seat.share ≡ (get_or vs i d).seat.share) → shares_of ws ≡ shares_of vs
-shares_same [] [] e same = refl
-shares_same [] (w ∷ ws) e same = absurd (omega arith)
-shares_same (v ∷ vs) [] e same = absurd (omega arith)
-shares_same (v ∷ vs) (w ∷ ws) e same =
-    let a = same 0 v (omega arith) in
-    let h = shares_same vs ws (omega arith) (λ i d lt. same (suc i) d (omega arith)) in
-    let c = sum_by-cons (λ (u : Worker). u.seat.share) w ws in
-    let b = sum_by-cons (λ (u : Worker). u.seat.share) v vs in
-    omega arith
+use Rattle.slab_emit.specs.Workers.{FitPlaces, IsFilled}
 
 -- what holds of what was made, if something was
 abbrev Fit : Lines → SourceValue → ℕ → Option (Result Part NoMemory) → Type 0

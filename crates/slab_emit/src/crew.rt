@@ -6,6 +6,8 @@ use std::alloc::Global;
 use std::marker::Model;
 
 /// So many workers, and the tools that they leave from one round to the next. Contracts see the number.
+///
+/// There are 1 to 64 workers.
 #[derive(Drop)]
 pub struct Crew {
     workers: u32,

@@ -88,7 +88,7 @@ fn run_to_end<G: Gate + Sync, R: Threads + Sync>(
     first: u32,
     claims: &Claims,
     gate: &G,
-    mut workers: Vec<Worker>,
+    workers: Vec<Worker>,
 ) -> Vec<Worker>
     requires some { 0 < length workers.items }
     requires slabs { first + claims.now.slabs ≤ slabs source.now.field.dims source.now.slab }
@@ -100,17 +100,7 @@ fn run_to_end<G: Gate + Sync, R: Threads + Sync>(
     ensures shares { shares_of result.items ≡ shares_of workers.items }
     ensures some { 0 < length result.items }
 {
-    run_all(
-        rt,
-        alloc,
-        source,
-        lines,
-        first,
-        claims,
-        gate,
-        workers.as_mut_slice(),
-    );
-    workers
+    run_all(rt, alloc, source, lines, first, claims, gate, workers)
 }
 
 // So many empty places.
@@ -215,6 +205,12 @@ fn collect(alloc: Global, places: &mut [Place]) -> Result<Vec<Part>, NoMemory>
 
 /// The parts of the slabs from `first` on, four for each worker or as many as there are: drawn by the workers, each in
 /// a thread of its own where one can be made, and given in the order of slabs.
+///
+/// ```
+/// let mut crew = Crew::new(alloc, 4);
+/// let parts = emit(rt, alloc, &source, Lines::Tets, &mut crew, &OpenGate, 0)?;
+/// assert_eq!(parts[0].slab, 0);
+/// ```
 pub fn emit<G: Gate + Sync, R: Threads + Sync>(
     rt: &R,
     alloc: Global,

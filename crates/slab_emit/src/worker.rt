@@ -4,11 +4,11 @@ ghost use Rattle.slab_emit.specs.Sources.{CanPrint};
 ghost use Rattle.slab_emit.specs.Workers.{HasMade, IsFinished, IsMade, IsReady};
 
 use crate::{Lines, Part, Source, part_of};
+use crews::run_each;
 use slab_claims::{Claim, ClaimSeat, Claims};
 use slab_texts::Tools;
 use st_base::{Gate, NoMemory};
 use std::alloc::Global;
-use std::thread;
 use std::thread::Threads;
 
 /// What was made of a number that was drawn: the part of that slab of the round, unless there was no memory.
@@ -84,22 +84,21 @@ pub fn run_all<G: Gate + Sync, R: Threads + Sync>(
     first: u32,
     claims: &Claims,
     gate: &G,
-    workers: &mut [Worker],
-)
-    requires some { 0 < length workers.old }
+    workers: Vec<Worker>,
+) -> Vec<Worker>
+    requires some { 0 < length workers.items }
     requires slabs { first + claims.now.slabs ≤ slabs source.now.field.dims source.now.slab }
     requires small { first + claims.now.slabs < 2 ^ 32 }
     requires printable { CanPrint lines source.now }
-    requires ready { All (IsReady claims.now) workers.old }
-    ensures finished { (i : ℕ) (d : _) → i < length workers.old → IsFinished claims.now (slice_index_or workers.new i d) }
-    ensures made { (i : ℕ) (d : _) → i < length workers.old → HasMade lines source.now first (slice_index_or workers.new i d) }
-    ensures shares { (i : ℕ) (d : _) → i < length workers.old → (slice_index_or workers.new i d).seat.share ≡ (slice_index_or workers.old i d).seat.share }
+    requires ready { All (IsReady claims.now) workers.items }
+    ensures len { length result.items ≡ length workers.items }
+    ensures finished { (i : ℕ) (d : _) → i < length workers.items → IsFinished claims.now (slice_index_or result.items i d) }
+    ensures made { (i : ℕ) (d : _) → i < length workers.items → HasMade lines source.now first (slice_index_or result.items i d) }
+    ensures shares { (i : ℕ) (d : _) → i < length workers.items → (slice_index_or result.items i d).seat.share ≡ (slice_index_or workers.items i d).seat.share }
 {
-    let count = workers.len();
-    thread::for_each_mut(
+    run_each(
         rt,
         workers,
-        count,
         &|_, worker| run_worker(alloc, source, lines, first, claims, gate, worker),
-    );
+    )
 }

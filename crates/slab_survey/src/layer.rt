@@ -9,10 +9,11 @@ ghost use Rattle.vertex_numbers.specs.Sources.{KnowsAround};
 ghost use Rattle.slab_survey.specs.Layers.{HasPut};
 
 use crate::source::KnownLayers;
+use bcc_lattice::{columns, rows, vertex_in_row};
 use layer_cells::{CellSeat, Cells};
 use samples::Field;
 use snap_rule::{Shares, row_states};
-use st_base::{Dims, Ledger, Vertex};
+use st_base::{Dims, Ledger};
 use vertex_numbers::{LayerCount, layer_count};
 
 /// Puts the states of row `j` of layer `h`, whose codes are made in `codes` first.
@@ -38,15 +39,8 @@ fn put_row<L: Ledger>(
     ensures sizes { IsDims field.now.dims }
 {
     row_states(field, shares, h, j, ledger, codes);
-    let dims = field.dims();
-    let y = j * 2 + h % 2;
-    for i in 0..dims.nx + 2 - h % 2 {
-        let v = Vertex {
-            h,
-            y,
-            x: i * 2 + h % 2,
-        };
-        cells.put(seat, v, codes[i as usize]);
+    for i in 0..columns(field.dims(), h) {
+        cells.put(seat, vertex_in_row(h, j, i), codes[i as usize]);
     }
 }
 
@@ -69,8 +63,7 @@ fn put_layer<L: Ledger>(
     ensures put { HasPut (layer_start field.now.dims h) (layer_start field.now.dims h + layer_len field.now.dims h) seat.old seat.new }
     ensures count { L.count ledger.new ≡ L.count ledger.old + layer_len field.now.dims h }
 {
-    let dims = field.dims();
-    for j in 0..dims.ny + 2 - h % 2 {
+    for j in 0..rows(field.dims(), h) {
         put_row(field, shares, cells, h, j, codes, seat, ledger);
     }
 }

@@ -16,6 +16,8 @@ use vertex_numbers::StateSource;
 
 /// The states of the layers that a seat knows raised. The sizes stand here by themselves, so that what ids are made
 /// of isn't read again after each word.
+///
+/// The seat is one at these cells, and the sizes are those of their field.
 #[derive(Drop)]
 pub struct KnownLayers<'a> {
     pub cells: &'a Cells,

@@ -19,6 +19,8 @@ use vertex_numbers::LayerCount;
 
 /// A worker: its number, its seats at the claims and at the cells, its ledger, the number of layers that it made, the
 /// counts of the layers of the slabs that it surveyed, and room for the codes of a row.
+///
+/// Its seat made so many layers, each once, and a row has no more vertices than there is room for.
 #[derive(Drop)]
 pub struct Worker<L: Ledger> {
     number: u32,
@@ -151,6 +153,12 @@ impl<L: Ledger> Worker<L> {
 
 /// Surveys a slab that the worker drew: makes those layers of its reach that its looks find not made, and appends
 /// what the mesh has in each of the slab's own layers. The ledger counts the vertices of the layers made.
+///
+/// ```rust
+/// while let Claim::Slab(slab) = worker.claim(&claims) {
+///     survey_slab(&field, shares, &layout, &cells, slab, &mut worker);
+/// }
+/// ```
 pub fn survey_slab<L: Ledger>(
     field: &Field,
     shares: Shares,

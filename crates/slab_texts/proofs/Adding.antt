@@ -1,21 +1,14 @@
 -- Lines of tetrahedra, one after another.
-use Rattle.std.proofs.Common.{◌≡◌, ℕ, suc, ◌+◌, ◌<◌, ◌≤◌, arith, refl, sym, ◌∙◌, ap, subst, Bool, true, false, List, [], ◌∷◌, ◌++◌, All, length, get_or, take, length-append, append_assoc, append-nil}
+use Rattle.std.proofs.Common.{◌≡◌, ℕ, ◌+◌, ◌<◌, arith, refl, sym, ◌∙◌, ap, subst, Bool, true, false, List, [], ◌++◌, All, length, get_or, take, length-append, append_assoc, append-nil}
 use Rattle.std.specs.Prelude.{flat_map}
-use Rattle.std.proofs.lemmas.List.{get_or_append_left, get_or-append-add, length-take-le, take_more}
+use Rattle.std.proofs.lemmas.List.{get_or_append_left, get_or-append-add}
 use Rattle.std.specs.List.{enumerate_from}
 use Rattle.definitions.specs.declared.Place.{Place}
 use Rattle.definitions.specs.Angles.{angles_of, extremes_of}
-use Rattle.mesh_texts.specs.Lines.{ele_line, ele_lines}
+use Rattle.mesh_lists.proofs.NumberedLists.{numbered_append, numbered_more}
+use Rattle.mesh_texts.specs.Lines.{ele_line}
 use Rattle.slab_texts.specs.declared.lines.TetLines.{TetLines}
 use Rattle.slab_texts.specs.Texts.{AddsTets, lines_if}
-
--- numbered lists in two parts
-pub numbered_append : {X Y : Type 0} (f : ℕ × X → List Y) (from : ℕ) (xs ys : List X) → flat_map f (enumerate_from from (xs ++ ys)) ≡ flat_map f (enumerate_from from xs) ++ flat_map f (enumerate_from (from + length xs) ys)
-numbered_append f from [] ys = let e : from + 0 ≡ from = omega arith in ap (λ n. flat_map f (enumerate_from n ys)) (sym e)
-numbered_append f from (x ∷ xs) ys =
-    let e : from + 1 + length xs ≡ from + suc (length xs) = omega arith in
-    ap (λ l. f (from, x) ++ l) (numbered_append f (from + 1) xs ys ∙ ap (λ n. flat_map f (enumerate_from (from + 1) xs) ++ flat_map f (enumerate_from n ys)) e)
-    ∙ sym (append_assoc (f (from, x)) (flat_map f (enumerate_from (from + 1) xs)) (flat_map f (enumerate_from (from + suc (length xs)) ys)))
 
 -- what holds of both parts
 pub all_left : {X : Type 0} (P : X → Type 0) (xs ys : List X) → All P (xs ++ ys) → All P xs
@@ -62,9 +55,4 @@ module _ (places : List Place) where
 -- one more numbered line
 pub line_more : {X : Type 0} (f : ℕ × X → List ℕ) (from n : ℕ) (xs : List X) (d : X) (a b c : List ℕ) → n < length xs → b ≡ a ++ flat_map f (enumerate_from from (take n xs)) → c ≡ b ++ f (from + n, get_or xs n d) → c ≡ a ++ flat_map f (enumerate_from from (take (n + 1) xs))
 line_more f from n xs d a b c lt e g =
-    let count : length (take n xs) ≡ n = length-take-le n xs (let h : n ≤ length xs = omega arith in h) in
-    g ∙ ap (λ l. l ++ f (from + n, get_or xs n d)) e ∙ append_assoc a (flat_map f (enumerate_from from (take n xs))) (f (from + n, get_or xs n d))
-    ∙ ap (λ l. a ++ l)
-    (ap (λ l. flat_map f (enumerate_from from (take n xs)) ++ l) (sym (append-nil (f (from + n, get_or xs n d))) ∙ ap (λ m. flat_map f (enumerate_from (from + m) (get_or xs n d ∷ []))) (sym count))
-    ∙ sym (numbered_append f from (take n xs) (get_or xs n d ∷ []))
-    ∙ ap (λ l. flat_map f (enumerate_from from l)) (sym (take_more xs n d lt)))
+    g ∙ ap (λ l. l ++ f (from + n, get_or xs n d)) e ∙ append_assoc a (flat_map f (enumerate_from from (take n xs))) (f (from + n, get_or xs n d)) ∙ ap (λ l. a ++ l) (sym (numbered_more f from n xs d lt))

@@ -19,11 +19,12 @@ use Rattle.dihedral.proofs.AnglesAreFractions.{six_are_angles}
 use Rattle.lattice_laws.proofs.Sublists.{all_by_place, all_from_place}
 use Rattle.std.specs.List.{AllByRecursion}
 use Rattle.mesh_texts.specs.Lines.{ele_line, ele_lines, node_line, node_lines}
+use Rattle.mesh_lists.proofs.NumberedLists.{numbered_append}
 use Rattle.mesh_lists.specs.Parts.{mesh_of, numbered}
 use Rattle.slab_texts.specs.Laws.{AllSlabsJoin, AllSpansAreAll, AllSpansJoin, AnglesAreFractions}
 use Rattle.slab_texts.specs.Spans.{nodes_below, span_angles, span_keys, span_node_lines, span_pieces, span_places, span_tet_lines, span_tets, tets_below}
 use Rattle.slab_texts.specs.Texts.{IsMeasured}
-use Rattle.slab_texts.proofs.Adding.{all_left, all_right, numbered_append}
+use Rattle.slab_texts.proofs.Adding.{all_left, all_right}
 use Rattle.slab_texts.proofs.Spans.{all_keys, all_of_pieces, keys_then, pieces_then}
 
 -- numbered lists, the second numbered from where the first ends
@@ -190,16 +191,6 @@ spans_join f ss = record { nodes = node_lines_then f ss; tets = tet_lines_then f
 
 pub spans_are_all : AllSpansAreAll
 spans_are_all f ss = record { nodes = all_nodes f ss; tets = all_tets f ss; angles = all_angles f ss }
-
--- some slabs, by their numbers
-pub slab_nodes_then : (f : Field) (ss : List State) (step t j n : ℕ) → 0 < t → j + n ≤ slabs f.dims t → flat_map (λ k. span_node_lines step f ss (slab_from t k) (slab_to f.dims t k)) (range_with_len j n) ≡ span_node_lines step f ss (bound f.dims t j) (bound f.dims t (j + n))
-slab_nodes_then f ss step t j n some le = slabs_then f.dims t some (span_node_lines step f ss) (node_lines_then f ss step) (no_node_lines f ss step) j n le
-
-pub slab_tets_then : (f : Field) (ss : List State) (t j n : ℕ) → 0 < t → j + n ≤ slabs f.dims t → flat_map (λ k. span_tet_lines f.dims ss (slab_from t k) (slab_to f.dims t k)) (range_with_len j n) ≡ span_tet_lines f.dims ss (bound f.dims t j) (bound f.dims t (j + n))
-slab_tets_then f ss t j n some le = slabs_then f.dims t some (span_tet_lines f.dims ss) (tet_lines_then f ss) (no_tet_lines f ss) j n le
-
-pub slab_angles_then : (f : Field) (ss : List State) (t j n : ℕ) → 0 < t → j + n ≤ slabs f.dims t → flat_map (λ k. span_angles f ss (slab_from t k) (slab_to f.dims t k)) (range_with_len j n) ≡ span_angles f ss (bound f.dims t j) (bound f.dims t (j + n))
-slab_angles_then f ss t j n some le = slabs_then f.dims t some (span_angles f ss) (angles_then f ss) (no_angles f ss) j n le
 
 pub slabs_join : AllSlabsJoin
 slabs_join f ss t some = record {

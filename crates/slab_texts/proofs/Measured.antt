@@ -12,7 +12,6 @@ use Rattle.definitions.specs.Mesh.{node_keys, number_of}
 use Rattle.definitions.specs.Soundness.{corner_places}
 use Rattle.dihedral.specs.Shapes.{Covers}
 use Rattle.dihedral.specs.Stars.{IsKnown}
-use Rattle.dihedral.specs.declared.Extremes.{Extremes}
 use Rattle.node_laws.proofs.Ranks.{range_split}
 use Rattle.mesh_lists.specs.Parts.{numbered}
 use Rattle.slab_texts.specs.declared.nodes.Nodes.{Nodes}

@@ -13,18 +13,10 @@ use Rattle.lattice_laws.specs.Ascending.{Has}
 use Rattle.node_laws.proofs.NumbersLeadBack.{numbers_are_ranks}
 use Rattle.node_laws.proofs.Ranks.{count_split}
 use Rattle.node_laws.proofs.Standing.{keys_are_below}
-use Rattle.vertex_numbers.specs.Numbering.{Numbering, nodes_before}
-use Rattle.mesh_lists.specs.Layers.{HoldLayers, NumbersLayers}
+use Rattle.vertex_numbers.specs.Numbering.{nodes_before}
+use Rattle.mesh_lists.specs.Layers.{HoldLayers}
+use Rattle.mesh_lists.specs.Parts.{keys_of_ids}
 use Rattle.mesh_lists.proofs.Layers.{held}
-use Rattle.slab_texts.specs.Nodes.{NumbersIds, keys_of_ids}
-
--- a numbering of ids that hold some layers is one of the nodes of these
-pub numbers_layers : (d : Dims) (ss : List State) (h a b : ℕ) (n : Numbering) → NumbersIds d ss a b n → HoldLayers d h a b → NumbersLayers d ss h n
-numbers_layers d ss h a b n m hold = record {
-  hold = subst (λ (i : ℕ). HoldLayers d h i (n.first + n.len)) (sym m.first) (subst (λ (i : ℕ). HoldLayers d h a i) (sym m.end) hold);
-  used = m.used;
-  number = m.number;
-}
 
 module _ (d : Dims) (ss : List State) (padded : ArePadded d ss) where
   abbrev occ : ℕ → Bool

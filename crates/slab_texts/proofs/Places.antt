@@ -1,5 +1,5 @@
 -- The keys and the places of the nodes of some ids.
-use Rattle.std.proofs.Common.{◌≡◌, ℕ, ◌+◌, ◌-◌, ◌*◌, ◌%◌, ◌^◌, ◌<◌, ◌≤◌, arith, sym, ◌∙◌, ap, subst, Bool, List, [], ◌++◌, map, length, length-append, get_or, All}
+use Rattle.std.proofs.Common.{◌≡◌, ℕ, ◌+◌, ◌-◌, ◌*◌, ◌^◌, ◌<◌, ◌≤◌, arith, sym, ◌∙◌, ap, subst, Bool, List, ◌++◌, map, length, length-append, get_or, All}
 use Rattle.std.specs.Prelude.{filter, pos}
 use Rattle.std.specs.List.{range_with_len}
 use Rattle.std.proofs.lemmas.List.{get_or_append_left, get_or-append_right, length-map, map-append}
@@ -7,39 +7,20 @@ use Rattle.definitions.specs.declared.Dims.{Dims}
 use Rattle.definitions.specs.declared.Place.{Place}
 use Rattle.definitions.specs.declared.State.{State}
 use Rattle.definitions.specs.Places.{place}
-use Rattle.definitions.specs.Lattice.{IsDims, layers, vertex, vertex_at, vertices}
-use Rattle.definitions.specs.Layout.{layer_start}
+use Rattle.definitions.specs.Lattice.{IsDims, vertices}
 use Rattle.definitions.specs.Mesh.{all_pieces, node_keys, node_place, occurs}
 use Rattle.definitions.specs.Values.{Field}
-use Rattle.lattice_counts.specs.Counts.{row_len}
 use Rattle.node_laws.proofs.Ranks.{filter_split}
 use Rattle.lattice_counts.proofs.Ranks.{all_small}
-use Rattle.mesh_lists.specs.Parts.{mesh_of}
+use Rattle.mesh_lists.specs.Parts.{keys_of_ids, mesh_of}
 use Rattle.mesh_lists.proofs.Sizes.{few_keys}
 use Rattle.vertex_numbers.specs.Numbering.{nodes_before}
-use Rattle.vertex_numbers.proofs.LayerIds.{of_row}
-use Rattle.slab_texts.specs.Nodes.{AreInRow, keys_of_ids}
+use Rattle.slab_texts.specs.Nodes.{AreInRow}
 use Rattle.slab_texts.proofs.Adding.{all_left, all_right}
 
 module _ (d : Dims) (ss : List State) where
   abbrev occ : ℕ → Bool
   occ = occurs (all_pieces d ss)
-
-  pub keys_of_one : (id n : ℕ) → n ≡ 8 → filter occ (range_with_len (8 * id) n) ≡ keys_of_ids d ss id 1
-  unfolding keys_of_ids
-  keys_of_one id n e = ap (λ m. filter occ (range_with_len (8 * id) m)) (e ∙ (let f : 8 ≡ 8 * 1 = omega arith in f))
-
-  pub keys_of_none : (id : ℕ) → [] ≡ keys_of_ids d ss id (id - id)
-  unfolding keys_of_ids
-  keys_of_none id = sym (ap (λ m. filter occ (range_with_len (8 * id) m)) (let e : 8 * (id - id) ≡ 0 = omega arith in e))
-
-  -- one id more
-  pub keys_of_more : (a n : ℕ) → a ≤ n → keys_of_ids d ss a (n - a) ++ keys_of_ids d ss n 1 ≡ keys_of_ids d ss a (n + 1 - a)
-  unfolding keys_of_ids
-  keys_of_more a n le =
-      ap (λ m. filter occ (range_with_len (8 * a) (8 * (n - a))) ++ filter occ (range_with_len m (8 * 1))) (let e : 8 * n ≡ 8 * a + 8 * (n - a) = omega arith in e)
-      ∙ sym (filter_split occ (8 * a) (8 * (n - a)) (8 * 1))
-      ∙ ap (λ m. filter occ (range_with_len (8 * a) m)) (let e : 8 * (n - a) + 8 * 1 ≡ 8 * (n + 1 - a) = omega arith in e)
 
   -- all keys in three parts
   keys_split : (a b : ℕ) → a ≤ b → b ≤ length (vertices d) → node_keys d ss ≡ filter occ (range_with_len 0 (8 * a)) ++ (keys_of_ids d ss a (b - a) ++ filter occ (range_with_len (8 * b) (8 * (length (vertices d) - b))))
@@ -76,21 +57,6 @@ places_in_row f ss a b first places le within e p =
     subst (λ n. AreInRow (map (node_place f ss) (node_keys f.dims ss)) n places) (sym e)
     (subst (AreInRow (map (node_place f ss) (node_keys f.dims ss)) (length (filter (occurs (all_pieces f.dims ss)) (range_with_len 0 (8 * a))))) (sym p)
     (in_row (node_place f ss) (node_keys f.dims ss) (filter (occurs (all_pieces f.dims ss)) (range_with_len 0 (8 * a))) (keys_of_ids f.dims ss a (b - a)) (filter (occurs (all_pieces f.dims ss)) (range_with_len (8 * b) (8 * (length (vertices f.dims) - b)))) (keys_split f.dims ss a b le within)))
-
--- the first vertex of a layer
-pub first_of_layer : (d : Dims) (h : ℕ) → IsDims d → h < layers d → vertex h (h % 2) (h % 2) ≡ vertex_at d (layer_start d h)
-first_of_layer d h is lt =
-    (λ i. vertex h (none (h % 2) i) (none (h % 2) i)) ∙ sym (of_row d is h lt 0 0 (some d.ny h) (some d.nx h))
-    ∙ ap (vertex_at d) (plain (layer_start d h) (row_len d.nx h))
-  where
-    none : (n : ℕ) → n ≡ 0 * 2 + n
-    none n = omega arith
-
-    some : (n h : ℕ) → 0 < row_len n h
-    some n h = omega arith
-
-    plain : (s w : ℕ) → s + 0 * w + 0 ≡ s
-    plain s w = omega arith
 
 -- how many nodes there are below the ids and at them
 pub few_nodes : (d : Dims) (ss : List State) (a b : ℕ) → IsDims d → a ≤ b → b ≤ length (vertices d) → nodes_before d ss a + length (keys_of_ids d ss a (b - a)) < 2 ^ 31

@@ -14,9 +14,9 @@ use Rattle.node_laws.proofs.Pieces.{flat_map_twice, pieces_join}
 use Rattle.node_laws.proofs.Ranks.{filter_split, range_split}
 use Rattle.vertex_numbers.specs.Numbering.{nodes_before}
 use Rattle.vertex_numbers.proofs.LayerIds.{layer_by_ids}
-use Rattle.vertex_numbers.proofs.LayerStarts.{starts_rise}
-use Rattle.mesh_lists.proofs.Sizes.{no_layers}
-use Rattle.slab_texts.specs.Nodes.{keys_of_ids, pieces_at}
+use Rattle.vertex_numbers.proofs.LayerStarts.{no_layers, starts_rise}
+use Rattle.mesh_lists.specs.Parts.{keys_of_ids}
+use Rattle.slab_texts.specs.Nodes.{pieces_at}
 use Rattle.slab_texts.specs.Spans.{nodes_below, span_keys, span_pieces}
 
 flat_map_map : {X Y Z : Type 0} (f : Y → List Z) (g : X → Y) (xs : List X) → flat_map f (map g xs) ≡ flat_map (λ x. f (g x)) xs

@@ -1,37 +1,20 @@
--- Walks over the vertices of ids one after another.
-use Rattle.std.proofs.Common.{◌≡◌, ℕ, ◌+◌, ◌^◌, ◌<◌, ◌≤◌, ◌⊎◌, inl, inr, arith, refl, sym, ◌∙◌, ap, subst, length, min, true, List}
+-- The ids of the vertices of some layers.
+use Rattle.std.proofs.Common.{◌≡◌, ℕ, ◌+◌, ◌<◌, ◌≤◌, ◌⊎◌, inl, inr, arith, sym, subst, length, min, List}
 use Rattle.definitions.specs.declared.Dims.{Dims}
 use Rattle.definitions.specs.declared.State.{State}
-use Rattle.definitions.specs.declared.Vertex.{Vertex}
-use Rattle.definitions.specs.Values.{Field, IsField}
-use Rattle.definitions.specs.Lattice.{IsDims, layers, vertex_at, vertices}
+use Rattle.definitions.specs.Lattice.{layers, vertex_at, vertices}
 use Rattle.definitions.specs.Layout.{layer_start}
-use Rattle.definitions.specs.Mesh.{all_pieces, node_keys, number_of, occurs}
-use Rattle.lattice_counts.proofs.Ranks.{id_small}
 use Rattle.lattice_laws.proofs.Laws.{ids_count_vertices}
 use Rattle.node_laws.proofs.Layers.{all_start}
-use Rattle.mesh_lists.proofs.NextVertex.{HasId, in_loop}
-use Rattle.vertex_numbers.specs.Numbering.{Holds, Numbering, number_in, used_in}
+use Rattle.vertex_numbers.specs.Numbering.{Numbering, NumbersIds}
 use Rattle.vertex_numbers.proofs.LayerStarts.{starts_rise}
 use Rattle.mesh_lists.specs.Layers.{HoldLayers}
 use Rattle.mesh_lists.proofs.Layers.{id_in_layer}
-use Rattle.slab_texts.specs.Nodes.{NumbersIds}
-
-pub in_walk : (d : Dims) (v : Vertex) (n end : ℕ) → n < end → end ≤ length (vertices d) → (n < length (vertices d) → v ≡ vertex_at d n) → HasId d v n
-in_walk d v n end lt within at = let below : n < length (vertices d) = omega arith in in_loop d d v n (length (vertices d)) refl refl below at
-
-pub field_dims : (f : Field) → IsField f → IsDims f.dims
-field_dims f h = h.sizes
-
-pub small_id : (d : Dims) (v : Vertex) (n : ℕ) → IsDims d → HasId d v n → n < 2 ^ 27
-small_id d v n is h = subst (λ m. m < 2 ^ 27) (sym h.number) (id_small d is v h.domain)
 
 -- a numbering of the ids of some layers, by equal sizes
-pub numbers_of_sizes : (e d : Dims) (ss : List State) (from to a b : ℕ) (n : Numbering) → e ≡ d → a ≡ layer_start d from → b ≡ layer_start d to → n.first ≡ layer_start e from → n.first + n.len ≡ layer_start e to →
-    ((key : ℕ) → Holds n key → used_in n key ≡ occurs (all_pieces e ss) key) → ((key : ℕ) → Holds n key → occurs (all_pieces e ss) key ≡ true → number_in n key ≡ number_of (node_keys e ss) key) → NumbersIds d ss a b n
-numbers_of_sizes e d ss from to a b n same start end first last used number =
-    subst (λ (z : Dims). NumbersIds z ss a b n) same
-    (record { first = first ∙ ap (λ (z : Dims). layer_start z from) same ∙ sym start; end = last ∙ ap (λ (z : Dims). layer_start z to) same ∙ sym end; used = used; number = number })
+pub numbers_of_sizes : (e d : Dims) (ss : List State) (from to a b : ℕ) (n : Numbering) → e ≡ d → a ≡ layer_start d from → b ≡ layer_start d to → NumbersIds e ss (layer_start e from) (layer_start e to) n → NumbersIds d ss a b n
+numbers_of_sizes e d ss from to a b n same start end is =
+    subst (λ (y : ℕ). NumbersIds d ss a y n) (sym end) (subst (λ (x : ℕ). NumbersIds d ss x (layer_start d to) n) (sym start) (subst (λ (z : Dims). NumbersIds z ss (layer_start z from) (layer_start z to) n) same is))
 
 -- the vertices of some layers have ids at which the layers, and the two above them, are held
 pub hold_span : (d : Dims) (from to top n : ℕ) → from ≤ to → to ≤ layers d → top ≡ min (to + 2) (layers d) → layer_start d from ≤ n → n < layer_start d to → HoldLayers d (vertex_at d n).h (layer_start d from) (layer_start d top)

@@ -1,27 +1,16 @@
 -- The nodes of the vertices of some ids, numbered and placed.
-use Rattle.std.specs.Prelude.{◌≡◌, ℕ, ◌+◌, ◌-◌, ◌*◌, ◌<◌, ◌≤◌, true, List, filter, flat_map, length, map}
-use Rattle.std.specs.List.{range_with_len}
+use Rattle.std.specs.Prelude.{◌≡◌, ℕ, ◌+◌, ◌-◌, ◌<◌, ◌≤◌, List, flat_map, length, map}
 use Rattle.definitions.specs.declared.Dims.{Dims}
 use Rattle.definitions.specs.declared.Place.{Place}
 use Rattle.definitions.specs.declared.State.{State}
 use Rattle.definitions.specs.Lattice.{vertex_at}
-use Rattle.definitions.specs.Mesh.{ArePadded, all_pieces, node_keys, node_place, number_of, occurs, tet_pieces}
+use Rattle.definitions.specs.Mesh.{ArePadded, node_place, tet_pieces}
 use Rattle.definitions.specs.Tetrahedra.{tets_from}
 use Rattle.definitions.specs.Values.{Field}
 use Rattle.definitions.specs.Vectors.{place_at}
-use Rattle.vertex_numbers.specs.Numbering.{Holds, Numbering, nodes_before, number_in, used_in}
+use Rattle.mesh_lists.specs.Parts.{keys_of_ids}
+use Rattle.vertex_numbers.specs.Numbering.{NumbersIds, nodes_before}
 use Rattle.slab_texts.specs.declared.nodes.Nodes.{Nodes}
-
--- a numbering of the nodes of the vertices of the ids from a on and before b
-pub record NumbersIds (d : Dims) (ss : List State) (a b : ℕ) (n : Numbering) : Type 0 where
-  pub first : n.first ≡ a
-  pub end : n.first + n.len ≡ b
-  pub used : (key : ℕ) → Holds n key → used_in n key ≡ occurs (all_pieces d ss) key
-  pub number : (key : ℕ) → Holds n key → occurs (all_pieces d ss) key ≡ true → number_in n key ≡ number_of (node_keys d ss) key
-
--- the keys of those nodes
-unfoldable pub keys_of_ids : Dims → List State → ℕ → ℕ → List ℕ
-keys_of_ids d ss a n = filter (occurs (all_pieces d ss)) (range_with_len (8 * a) (8 * n))
 
 -- the pieces of the lattice tetrahedra whose lowest vertex has an id
 abbrev pub pieces_at : Dims → List State → ℕ → List (List ℕ)

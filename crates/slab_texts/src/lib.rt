@@ -3,7 +3,6 @@
 #![tactic(auto)]
 
 mod laws;
-mod layers;
 mod lines;
 mod nodes;
 mod tetrahedra;

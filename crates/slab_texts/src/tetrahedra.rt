@@ -8,7 +8,8 @@ ghost use Rattle.slab_texts.specs.Texts.{Adds, AreMeasuredIn};
 
 use crate::lines::{push_all, push_whole};
 use crate::{Nodes, TetLines, Tools};
-use mesh_lists::{next_vertex, push_tets_from, whole_numbers};
+use bcc_lattice::next_vertex;
+use mesh_lists::{push_tets_from, whole_numbers};
 use snap_rule::States;
 use st_base::{NoMemory, Vertex};
 

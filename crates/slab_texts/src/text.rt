@@ -11,9 +11,9 @@ ghost use Rattle.vertex_numbers.specs.Counts.{layer_counts};
 ghost use Rattle.slab_texts.specs.Spans.{span_angles, span_node_lines, span_places, span_tet_lines, span_tets};
 ghost use Rattle.slab_texts.specs.Texts.{IsMeasured};
 
-use crate::layers::{first_vertex, ids_below};
 use crate::tetrahedra::push_tets;
 use crate::{Nodes, TetLines, Tools};
+use bcc_lattice::{first_vertex, ids_below, layers};
 use dihedral::{Extremes, Remembering};
 use node_ele_write::Pen;
 use samples::Field;
@@ -53,6 +53,12 @@ fn push_lines(
 }
 
 /// The lines of the nodes of the layers from `from` on and before `to`.
+///
+/// ```rust
+/// let mut tools = Tools::new(rt.alloc())?;
+/// let text = node_text(rt.alloc(), &mut tools, &field, &states, &offsets, 0, 2, 1)?;
+/// println!(rt; "{} bytes", text.len())?;
+/// ```
 pub fn node_text(
     alloc: Global,
     tools: &mut Tools,
@@ -71,10 +77,7 @@ pub fn node_text(
     requires printable { All (IsPrintable step) (mesh_of field.now states.now.states).places }
     ensures { IfOk result (λ text. text.items ≡ span_node_lines step field.now states.now.states from to) }
 {
-    let nodes = match Nodes::of_layers(alloc, field, states, offsets, from, to) {
-        Ok(nodes) => nodes,
-        Err(fault) => return Err(fault),
-    };
+    let nodes = Nodes::of_layers(alloc, field, states, offsets, from, to)?;
     let Ok(mut text) = Vec::with_capacity(alloc, NODE_ROOM * nodes.places.len()) else {
         return Err(NoMemory);
     };
@@ -83,40 +86,32 @@ pub fn node_text(
 }
 
 // So many bytes are taken beforehand for the lines of the tetrahedra of the layers from `from` on and before `to`.
-fn room(offsets: &Offsets, layers: u32, from: u32, to: u32) -> usize
-    requires layers { layers ≡ length offsets.now }
-    requires from { from < layers }
+fn room(offsets: &Offsets, from: u32, to: u32) -> usize
+    requires some { from ≤ to }
+    requires within { to ≤ length offsets.now }
 {
-    let start = offsets.tet_start(from);
-    let end = if to < layers {
-        offsets.tet_start(to)
-    } else {
-        offsets.tets()
-    };
-    TET_ROOM * end.saturating_sub(start).min(1 << 32) as usize
+    let tets = offsets
+        .tet_start(to)
+        .saturating_sub(offsets.tet_start(from));
+    TET_ROOM * tets.min(1 << 32) as usize
 }
 
 // No lines yet, with room for those of the layers from `from` on and before `to` if lines are written.
 fn begin(
     alloc: Global,
     offsets: &Offsets,
-    layers: u32,
     from: u32,
     to: u32,
     writes: bool,
 ) -> Result<TetLines, NoMemory>
-    requires layers { layers ≡ length offsets.now }
-    requires from { from < layers }
+    requires some { from ≤ to }
+    requires within { to ≤ length offsets.now }
     ensures text { IfOk result (λ out. out.text.items ≡ []) }
     ensures writes { IfOk result (λ out. out.writes ≡ writes) }
     ensures number { IfOk result (λ out. out.number ≡ sum_by (λ c. c.tets) (take from offsets.now)) }
     ensures angles { IfOk result (λ out. out.angles ≡ None) }
 {
-    let bytes = if writes {
-        room(offsets, layers, from, to)
-    } else {
-        0
-    };
+    let bytes = if writes { room(offsets, from, to) } else { 0 };
     let Ok(text) = Vec::with_capacity(alloc, bytes) else {
         return Err(NoMemory);
     };
@@ -151,23 +146,12 @@ fn tets_of_layers(
     ensures fractions { IfOk result (λ t. ForSome t.extremes AreFractions) }
 {
     let dims = states.dims();
-    let layers = 2 * dims.nz + 3;
-    let top = (to + 2).min(layers);
-    let nodes = match Nodes::of_layers(alloc, field, states, offsets, from, top) {
-        Ok(nodes) => nodes,
-        Err(fault) => return Err(fault),
-    };
-    let mut out = begin(alloc, offsets, layers, from, to, writes)?;
+    let top = (to + 2).min(layers(dims));
+    let nodes = Nodes::of_layers(alloc, field, states, offsets, from, top)?;
+    let mut out = begin(alloc, offsets, from, to, writes)?;
     let v = first_vertex(from);
-    push_tets(
-        states,
-        &nodes,
-        v,
-        nodes.start,
-        ids_below(dims, to),
-        tools,
-        &mut out,
-    )?;
+    let end = ids_below(dims, to);
+    push_tets(states, &nodes, v, nodes.start, end, tools, &mut out)?;
     Ok(TetText {
         text: out.text,
         extremes: out.angles.found(),
@@ -216,8 +200,5 @@ pub fn tet_extremes(
     ensures extremes { IfOk result (λ e. e ≡ extremes_of (span_angles field.now states.now.states from to)) }
     ensures fractions { IfOk result (λ e. ForSome e AreFractions) }
 {
-    match tets_of_layers(alloc, tools, field, states, offsets, from, to, false) {
-        Ok(made) => Ok(made.extremes),
-        Err(fault) => Err(fault),
-    }
+    Ok(tets_of_layers(alloc, tools, field, states, offsets, from, to, false)?.extremes)
 }

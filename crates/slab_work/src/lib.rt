@@ -1,5 +1,10 @@
 //! What a user of workers calls: a plan says how many workers there are and how many double layers a slab has; a
 //! survey finds the states of all vertices; then the lines of the mesh are made round by round, some slabs at a time.
+//!
+//! ```rust
+//! let (survey, ledgers) = survey(rt, alloc, &field, shares, plan, &OpenGate, ledgers)?;
+//! for part in emit_nodes(rt, alloc, &survey, step, plan, &OpenGate, 0)?.iter() { .. }
+//! ```
 #![tactic(auto)]
 
 mod rounds;

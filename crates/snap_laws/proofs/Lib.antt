@@ -1,4 +1,5 @@
 pub mod Ranks
 pub mod ByValues
 pub mod CutsLeft
+pub mod Nearest
 pub mod StatesAre

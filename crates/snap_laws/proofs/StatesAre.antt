@@ -1,12 +1,12 @@
 -- What the rule says of a vertex is a state: the nearest cut is on an edge 1 to 14 and has a number up to the scale.
-use Rattle.std.proofs.Common.{◌≡◌, ℕ, zero, suc, ◌+◌, ◌*◌, ◌/◌, ◌<◌, ◌≤◌, ◌⊎◌, inl, inr, arith, refl, sym, ◌∙◌, ap, subst, Bool, true, false, nat_le, List, [], ◌∷◌, map, Option, Some, None, ℤ}
-use Rattle.std.specs.Prelude.{if◌then◌else◌, fold, filter_map, option_and_then, unsigned_abs}
-use Rattle.std.specs.List.{range_with_len, cons_option, AllByRecursion}
+use Rattle.std.proofs.Common.{◌≡◌, ℕ, ◌+◌, ◌*◌, ◌/◌, ◌<◌, ◌≤◌, ◌⊎◌, inl, inr, arith, refl, sym, ◌∙◌, ap, subst, Bool, true, false, nat_le, List, map, Option, Some, None, ℤ}
+use Rattle.std.specs.Prelude.{if◌then◌else◌, unsigned_abs}
+use Rattle.std.specs.List.{range_with_len}
 use Rattle.std.proofs.Math.Nat.{div-lt_iff_lt-mul}
 use Rattle.definitions.specs.declared.Near.{Near}
 use Rattle.definitions.specs.declared.Sign.{Sign}
 use Rattle.definitions.specs.declared.Sign.TheVariants.{Minus, Zero, Plus}
-use Rattle.definitions.specs.Lists.{least_by, lesser}
+use Rattle.definitions.specs.Lists.{least_by}
 use Rattle.definitions.specs.Lattice.{is_long}
 use Rattle.definitions.specs.Values.{sign_of, value}
 use Rattle.definitions.specs.Cuts.{scale, cut_number, cut_between, are_opposite}
@@ -14,6 +14,7 @@ use Rattle.definitions.specs.States.{IsState, Shares, is_up, direction_of, near_
 use Rattle.snap_laws.specs.Around.{around, rank, number_of_cut, distance_of_cut, near_here, nears_here, state_here, value_on, IsNearCut}
 use Rattle.snap_laws.specs.Laws.{StatesAreStates}
 use Rattle.snap_laws.proofs.ByValues.{states_by_values}
+use Rattle.snap_laws.proofs.Nearest.{IfNear, both_some, nearest_has}
 
 -- a cut's number is at most the scale
 pub at_most_scale : (a b : ℕ) → cut_between a b ≤ 4096
@@ -33,7 +34,7 @@ at_most_scale a b = go (positive (a + b))
     go (inl e) = let z : (2 * scale * a + a + b) / (2 * (a + b)) ≡ 0 = (λ i. (2 * scale * a + a + b) / (2 * e i)) ∙ over_zero (2 * scale * a + a + b) in omega arith
     go (inr h) = let q : (2 * scale * a + a + b) / (2 * (a + b)) < 4097 = (div-lt_iff_lt-mul h).1 (fits a b h) in omega arith
 
-number_small : (a b : ℤ) (k : ℕ) → cut_number a b ≡ Some k → k ≤ 4096
+pub number_small : (a b : ℤ) (k : ℕ) → cut_number a b ≡ Some k → k ≤ 4096
 unfolding cut_number
 number_small a b k = go (are_opposite (sign_of a) (sign_of b))
   where
@@ -41,11 +42,7 @@ number_small a b k = go (are_opposite (sign_of a) (sign_of b))
     go true e = let q : cut_between (unsigned_abs a) (unsigned_abs b) ≡ k = cc in subst (λ n. n ≤ 4096) q (at_most_scale (unsigned_abs a) (unsigned_abs b))
     go false e = cc
 
-both_some : {X Y : Type 0} (g : X → Option Y) (o : Option X) (y : Y) → option_and_then g o ≡ Some y → (x : X) × (o ≡ Some x) × (g x ≡ Some y)
-both_some g None y e = cc
-both_some g (Some x) y e = (x, refl, e)
-
-as_given : (s : Shares) (edge k t c : ℕ) (n : Near) → near_at s edge k t c ≡ Some n → (n.edge ≡ edge) × (n.k ≡ k)
+pub as_given : (s : Shares) (edge k t c : ℕ) (n : Near) → near_at s edge k t c ≡ Some n → (n.edge ≡ edge) × (n.k ≡ k)
 as_given s edge k t c n = go (nat_le t (share s (direction_of edge)))
   where
     go : (b : Bool) → (if b then Some (record { edge = edge; k = k; square = square_of (is_long (direction_of edge)) t; key = c }) else None) ≡ Some n → (n.edge ≡ edge) × (n.k ≡ k)
@@ -67,27 +64,7 @@ near_is_cut s own other edge n low high e =
     small true k q = number_small own other k q
     small false k q = number_small other own k q
 
-all_cuts : (s : Shares) (own : ℤ) (values : List ℤ) (a n : ℕ) → 1 ≤ a → a + n ≤ 15 → AllByRecursion IsNearCut (filter_map (λ edge. near_here s own (value_on values edge) edge) (range_with_len a n))
-all_cuts s own values a zero low high = tt
-all_cuts s own values a (suc n) low high = go (near_here s own (value_on values a) a) refl (all_cuts s own values (a + 1) n (omega arith) (omega arith))
-  where
-    go : (o : Option Near) → near_here s own (value_on values a) a ≡ o → AllByRecursion IsNearCut (filter_map (λ edge. near_here s own (value_on values edge) edge) (range_with_len (a + 1) n)) →
-        AllByRecursion IsNearCut (cons_option o (filter_map (λ edge. near_here s own (value_on values edge) edge) (range_with_len (a + 1) n)))
-    go None e rest = rest
-    go (Some m) e rest = (near_is_cut s own (value_on values a) a m low (omega arith) e, rest)
-
-abbrev IfCut : Option Near → Type 0
-IfCut o = AllByRecursion IsNearCut (cons_option o [])
-
-lesser_cut : (a : Option Near) (x : Near) → IfCut a → IsNearCut x → IsNearCut (lesser is_nearer a x)
-lesser_cut None x h k = k
-lesser_cut (Some y) x h k = elim (is_nearer x y) as (λ b. IsNearCut (if b then x else y)) [ true ↦ k | false ↦ h.0 ]
-
-least_cut : (xs : List Near) (a : Option Near) → AllByRecursion IsNearCut xs → IfCut a → IfCut (fold (λ a x. Some (lesser is_nearer a x)) a xs)
-least_cut [] a h k = k
-least_cut (x ∷ xs) a h k = least_cut xs (Some (lesser is_nearer a x)) h.1 (lesser_cut a x k h.0, tt)
-
-snapped_state : (g : Sign) (o : Option Near) → IfCut o → IsState (snapped g o)
+snapped_state : (g : Sign) (o : Option Near) → IfNear IsNearCut o → IsState (snapped g o)
 snapped_state Zero o h = inl (refl, refl)
 snapped_state Minus None h = tt
 snapped_state Plus None h = tt
@@ -95,10 +72,9 @@ snapped_state Minus (Some n) h = let c = h.0 in inr (c.low, c.high, c.within)
 snapped_state Plus (Some n) h = let c = h.0 in inr (c.low, c.high, c.within)
 
 pub here_is_state : (s : Shares) (own : ℤ) (values : List ℤ) → IsState (state_here s own values)
-unfolding state_here nears_here least_by
+unfolding state_here nears_here
 here_is_state s own values =
-    snapped_state (sign_of own) (fold (λ a x. Some (lesser is_nearer a x)) None (filter_map (λ edge. near_here s own (value_on values edge) edge) (range_with_len 1 14)))
-    (least_cut (filter_map (λ edge. near_here s own (value_on values edge) edge) (range_with_len 1 14)) None (all_cuts s own values 1 14 (omega arith) (omega arith)) tt)
+    snapped_state (sign_of own) (least_by is_nearer (nears_here s own values)) (nearest_has IsNearCut (λ edge. near_here s own (value_on values edge) edge) (λ edge m low high e. near_is_cut s own (value_on values edge) edge m low high e))
 
 pub states_are_states : StatesAreStates
 states_are_states f s v inside = subst IsState (sym (states_by_values f s v inside)) (here_is_state s (value f v) (map (around f v) (range_with_len 1 14)))

@@ -5,7 +5,7 @@ ghost use Rattle.lattice_counts.specs.Counts.{row_len};
 ghost use Rattle.snap_rule.specs.Alike.{AreAround, AreColumns, AreInside, IsColumn, IsSide};
 
 use definitions::Sign;
-use samples::Field;
+use samples::{Field, sign_of};
 use st_base::Dims;
 
 /// The lines of corners along x around a row of vertices, by the numbers of their corners from the
@@ -36,19 +36,6 @@ pub fn lines_around(field: &Field, h: u32, j: u32) -> Lines
         j_high: (j + far).min(dims.ny + 1),
         k_low: k.saturating_sub(1),
         k_high: (k + far).min(dims.nz + 1),
-    }
-}
-
-#[inline]
-fn sign_of(difference: i64) -> Sign
-    ensures { result ≡ sign_of difference }
-{
-    if difference > 0 {
-        Sign::Plus
-    } else if difference == 0 {
-        Sign::Zero
-    } else {
-        Sign::Minus
     }
 }
 

@@ -8,31 +8,10 @@ ghost use Rattle.snap_rule.specs.Alike.{HasAround};
 use crate::Shares;
 use crate::columns::{Run, first_run, lines_around, with_next};
 use crate::vertex::state_at;
-use bcc_lattice::code;
+use bcc_lattice::{code, columns, layers, rows, vertex_in_row};
 use definitions::Sign;
 use samples::Field;
 use st_base::{Ledger, Vertex};
-
-/// The numbers of rows of a layer, and of vertices in each.
-#[derive(Clone, Copy)]
-pub struct LayerSize {
-    pub rows: u32,
-    pub row: u32,
-}
-
-/// The size of a layer.
-#[tactic(auto, using(lattice_counts::proofs::Sizes::nx_small, lattice_counts::proofs::Sizes::ny_small))]
-pub fn layer_size(field: &Field, h: u32) -> LayerSize
-    ensures rows { result.rows ≡ row_len field.now.dims.ny h }
-    ensures row { result.row ≡ row_len field.now.dims.nx h }
-    ensures sizes { IsDims field.now.dims }
-{
-    let dims = field.dims();
-    LayerSize {
-        rows: dims.ny + 2 - h % 2,
-        row: dims.nx + 2 - h % 2,
-    }
-}
 
 /// The code of a vertex of a sign that is not moved.
 fn sign_code(sign: Sign) -> u64
@@ -60,7 +39,6 @@ fn code_at(field: &Field, shares: Shares, run: Run, v: Vertex) -> u64
 }
 
 /// Writes the codes of row `j` of a layer from a place on.
-#[tactic(auto, using(lattice_counts::proofs::Sizes::nx_small, lattice_counts::proofs::Sizes::ny_small))]
 fn write_row(field: &Field, shares: Shares, h: u32, j: u32, start: usize, out: &mut [u64])
     requires layer { h < layers field.now.dims }
     requires row { j < row_len field.now.dims.ny h }
@@ -68,17 +46,11 @@ fn write_row(field: &Field, shares: Shares, h: u32, j: u32, start: usize, out: &
     ensures row { (i : ℕ) → i < row_len field.now.dims.nx h → slice_index out.new (start + i) ≡ code (state_of field.now shares (vertex h (j * 2 + h % 2) (i * 2 + h % 2))) }
     ensures below { (k : ℕ) → k < start → slice_index out.new k ≡ slice_index out.old k }
 {
-    let size = layer_size(field, h);
     let lines = lines_around(field, h, j);
-    let y = j * 2 + h % 2;
     let ahead = 1 + h % 2;
     let mut run = first_run(field, lines, ahead);
-    for i in 0..size.row {
-        let v = Vertex {
-            h,
-            y,
-            x: i * 2 + h % 2,
-        };
+    for i in 0..columns(field.dims(), h) {
+        let v = vertex_in_row(h, j, i);
         run = with_next(field, lines, run, i + ahead);
         out[start + i as usize] = code_at(field, shares, run, v);
     }
@@ -93,18 +65,18 @@ pub fn write_layer(field: &Field, shares: Shares, h: u32, start: usize, out: &mu
     ensures end { result ≡ start + layer_len field.now.dims h }
     ensures sizes { IsDims field.now.dims }
 {
-    let size = layer_size(field, h);
+    let dims = field.dims();
+    let row = columns(dims, h) as usize;
     let mut at = start;
-    for j in 0..size.rows {
+    for j in 0..rows(dims, h) {
         write_row(field, shares, h, j, at, out);
-        at += size.row as usize;
+        at += row;
     }
     at
 }
 
 /// Writes the codes of row `j` of a layer, in order, at the head of `out`, and has the ledger count
 /// its vertices.
-#[tactic(auto, using(lattice_counts::proofs::Sizes::nx_small))]
 pub fn row_states<L: Ledger>(
     field: &Field,
     shares: Shares,
@@ -120,7 +92,7 @@ pub fn row_states<L: Ledger>(
     ensures codes { (i : ℕ) → i < row_len field.now.dims.nx h → slice_index out.new i ≡ code (state_of field.now shares (vertex h (j * 2 + h % 2) (i * 2 + h % 2))) }
     ensures count { L.count ledger.new ≡ L.count ledger.old + row_len field.now.dims.nx h }
 {
-    ledger.add(layer_size(field, h).row as u64);
+    ledger.add(columns(field.dims(), h) as u64);
     write_row(field, shares, h, j, 0, out);
 }
 
@@ -148,16 +120,7 @@ pub fn write_all(field: &Field, shares: Shares, out: &mut [u64])
     ensures { out.new ≡ map (λ v. code (state_of field.now shares v)) (vertices field.now.dims) }
 {
     let mut at = 0;
-    for h in 0..layers_of(field) {
+    for h in 0..layers(field.dims()) {
         at = write_layer(field, shares, h, at, out);
     }
-}
-
-/// The number of layers.
-#[tactic(auto, using(lattice_counts::proofs::Sizes::nz_small))]
-fn layers_of(field: &Field) -> u32
-    ensures layers { result ≡ layers field.now.dims }
-    ensures sizes { IsDims field.now.dims }
-{
-    2 * field.dims().nz + 3
 }

@@ -30,6 +30,8 @@ pub fn decode(word: u64) -> State
 }
 
 /// The states of all vertices, each kept as its code. Contracts see the sizes and the list of states.
+///
+/// There are as many words as vertices, and each word is the code of a state.
 #[derive(Drop)]
 pub struct States {
     dims: Dims,
@@ -142,6 +144,12 @@ fn codes_of(alloc: Global, field: &Field, shares: Shares) -> Result<Vec<u64>, No
 }
 
 /// The states of all vertices, which the ledger counts. NoMemory leaves the ledger as it was.
+///
+/// ```rust
+/// let shares = Shares::new(1023, 1687).expect(&rt, "shares");
+/// let states = all_states(alloc, &field, shares, &mut Tally::new())?;
+/// let state = states.state(Vertex { h: 3, y: 3, x: 3 });
+/// ```
 pub fn all_states<L: Ledger>(
     alloc: Global,
     field: &Field,
@@ -155,11 +163,7 @@ pub fn all_states<L: Ledger>(
     ensures unchanged { OnErr result (L.count ledger.new ≡ L.count ledger.old) }
 {
     let dims = field.dims();
-    match codes_of(alloc, field, shares) {
-        Ok(codes) => {
-            ledger.add(vertex_count(dims) as u64);
-            Ok(States::of_codes(dims, codes))
-        }
-        Err(fault) => Err(fault),
-    }
+    let codes = codes_of(alloc, field, shares)?;
+    ledger.add(vertex_count(dims) as u64);
+    Ok(States::of_codes(dims, codes))
 }

@@ -10,21 +10,15 @@ use Rattle.definitions.specs.Tetrahedra.{lattice_tets, tets_from}
 use Rattle.lattice_laws.specs.Ascending.{Ascends, Has}
 use Rattle.lattice_laws.proofs.AscendingLists.{ascends_append, ascends_filter}
 use Rattle.lattice_laws.proofs.Booleans.{both_true, not_true, not_both}
-use Rattle.lattice_laws.proofs.Members.{from_append, from_flat_map, from_map}
+use Rattle.lattice_laws.proofs.Members.{from_append, from_flat_map, from_map, all_from_members, all_at}
 use Rattle.lattice_laws.proofs.Vertices.{before_itself, vertices_ascend}
 use Rattle.stencil_laws.specs.Faces.{each_pair}
-use Rattle.triangle_laws.proofs.Sums.{all_from_members}
-
-at_member : {X : Type 0} (P : X → Type 0) (v : X) (xs : List X) → AllByRecursion P xs → Has v xs → P v
-at_member P v [] h k = absurd k
-at_member P v (x ∷ xs) h (inl e) = subst P e h.0
-at_member P v (x ∷ xs) h (inr k) = at_member P v xs h.1 k
 
 -- a mapped list
 pub ascends_mapped : {X Y : Type 0} (S : X → X → Type 0) (R : Y → Y → Type 0) (f : X → Y) (xs : List X) → Ascends S xs → ((x y : X) → Has x xs → Has y xs → S x y → R (f x) (f y)) → Ascends R (map f xs)
 ascends_mapped S R f [] a h = tt
 ascends_mapped S R f (x ∷ xs) a h = (
-  all_from_members (R (f x)) (map f xs) (λ y m. let r = from_map f y xs m in subst (R (f x)) r.2 (h x r.0 (inl refl) (inr r.1) (at_member (S x) r.0 xs a.0 r.1))),
+  all_from_members (R (f x)) (map f xs) (λ y m. let r = from_map f y xs m in subst (R (f x)) r.2 (h x r.0 (inl refl) (inr r.1) (all_at (S x) r.0 xs a.0 r.1))),
   ascends_mapped S R f xs a.1 (λ y z m k. h y z (inr m) (inr k)),
 )
 
@@ -35,7 +29,7 @@ ascends_blocks S R f [] a h k = tt
 ascends_blocks S R f (x ∷ xs) a h k =
     ascends_append R (f x) (flat_map f xs) (h x (inl refl)) (ascends_blocks S R f xs a.1 (λ y m. h y (inr m)) (λ y z m n. k y z (inr m) (inr n)))
     (all_from_members (λ y. AllByRecursion (R y) (flat_map f xs)) (f x)
-    (λ y m. all_from_members (R y) (flat_map f xs) (λ w n. let r = from_flat_map f w xs n in k x r.0 (inl refl) (inr r.1) (at_member (S x) r.0 xs a.0 r.1) y w m r.2)))
+    (λ y m. all_from_members (R y) (flat_map f xs) (λ w n. let r = from_flat_map f w xs n in k x r.0 (inl refl) (inr r.1) (all_at (S x) r.0 xs a.0 r.1) y w m r.2)))
 
 -- a test of each pair
 pub ascends_from_test : {X : Type 0} (t : X → X → Bool) (xs : List X) → each_pair (λ x y. not (t x y)) xs ≡ true → Ascends (λ x y. t x y ≡ false) xs
@@ -78,7 +72,7 @@ cliques_differ R (suc n) xs a = go (cliques_differ R n) xs a
         (λ w k e.
         (let r = from_map (λ c. x ∷ c) y (cliques R n (filter (R x) xs)) m in
         let q = from_each (λ x later. cliques R n (filter (R x) later)) w xs k in
-        at_member (Differ x) q.0 xs a.0 q.1 (same_heads x q.0 r.0 q.2 (r.2 ∙ e ∙ sym q.3)).0))))
+        all_at (Differ x) q.0 xs a.0 q.1 (same_heads x q.0 r.0 q.2 (r.2 ∙ e ∙ sym q.3)).0))))
 
 before_differ : (u v : Vertex) → before u v ≡ true → u ≡ v → ⊥
 before_differ u v b e = not_both (before u v) b (ap (before u) (sym e) ∙ before_itself u)

@@ -22,7 +22,7 @@ use Rattle.lattice_laws.proofs.Directions.{direction_known}
 use Rattle.lattice_laws.proofs.EdgeSteps.{step_to, direction_of_step}
 use Rattle.lattice_laws.proofs.ListedTetrahedra.{lattice_tets_listed}
 use Rattle.lattice_laws.proofs.Lists.{member_where, all_at_member, compared}
-use Rattle.lattice_laws.proofs.Members.{has_map, has_range, from_map, place_of}
+use Rattle.lattice_laws.proofs.Members.{has_map, has_range, from_map, place_of, any_of_member}
 use Rattle.lattice_laws.proofs.Sublists.{has_at, pairs_by_place, pairs_from_place}
 use Rattle.lattice_laws.proofs.Vertices.{vertex_at-id, before_itself, before_back}
 use Rattle.stencil_laws.specs.Cases.{case_pieces, is_node_of}
@@ -32,7 +32,7 @@ use Rattle.stencil_laws.proofs.Forms.{same_corner-itself}
 use Rattle.node_laws.proofs.NumbersLeadBack.{numbers_lead_back}
 use Rattle.parent_laws.specs.Parents.{signs_of, node_number, tets_of}
 use Rattle.piece_laws.proofs.PiecesMeet.{in_slots}
-use Rattle.parent_laws.proofs.Nodes.{IsPiece, any_of_member, id_slot, piece_is, key_occurs, key_below}
+use Rattle.parent_laws.proofs.Nodes.{IsPiece, id_slot, piece_is, key_occurs, key_below}
 use Rattle.parent_laws.proofs.OrientedPieces.{has_oriented, from_oriented}
 use Rattle.parent_laws.proofs.Parents.{tets_are_pieces}
 use Rattle.sound_laws.specs.Laws.{TetsDiffer}

@@ -36,7 +36,6 @@ use Rattle.piece_laws.specs.Renaming.{renamed, cuts_of, vertex_at, lattice_weigh
 use Rattle.piece_laws.specs.Laws.{AgreeAtNodes}
 use Rattle.piece_laws.proofs.PiecesMeet.{in_slots, AreProper, proper_from_test, above_left, above_right, times_nonneg, entry_nonneg, entry_whole, entry_first, entry_second, sum_nonneg, moved_pieces_meet}
 use Rattle.piece_laws.proofs.Renaming.{cut_at}
-use Rattle.triangle_laws.proofs.Sums.{all_from_members}
 use Rattle.parent_laws.specs.Everywhere.{sign_on, displacement_on, cut_on}
 use Rattle.parent_laws.specs.Parents.{signs_of, node_number, Parent, from_padding, IsNodePlace}
 use Rattle.parent_laws.proofs.Distances.{displacements_small}
@@ -47,6 +46,7 @@ use Rattle.sound_laws.specs.Laws.{TetsMeet}
 use Rattle.sound_laws.proofs.Positive.{onto_origin}
 use Rattle.sound_laws.proofs.Rows.{column, column_sum, column_place, sum_of_rows, place_of_rows}
 use Rattle.sound_laws.proofs.Weights.{sum_same, sum_plus, sum_scaled, sum_of_ones, weighted_place_is, sum_of_slots, combination_of_slots, WhereWeighted, same_weights, renumbered, reordered}
+use Rattle.lattice_laws.proofs.Members.{all_from_members}
 
 -- ---- the parts of a node that the vertices have, of 4096
 module _ (f : Field) (s : Shares) (b : Vector) (κ : Kind) where

@@ -47,18 +47,19 @@ use Rattle.displacement_laws.proofs.DisplacedRows.{row_dominates, row_sum}
 use Rattle.parent_laws.specs.Everywhere.{at_coordinates, sign_on, displacement_on, cut_on}
 use Rattle.parent_laws.specs.Parents.{signs_of, node_number, Parent, from_padding, IsNodePlace}
 use Rattle.displacement_laws.proofs.Displacements.{not_moved}
-use Rattle.triangle_laws.proofs.Sums.{all_from_members}
 use Rattle.moved_lattice.proofs.WeightedVolumes.{scaled_volume}
 use Rattle.parent_laws.proofs.Distances.{displacements}
 use Rattle.parent_laws.proofs.Everywhere.{cuts_fit}
 use Rattle.piece_laws.proofs.PiecesMeet.{in_slots, sign_four}
 use Rattle.parent_laws.proofs.Nodes.{piece_is, nodes_stand_on_edges, parent_in_case}
-use Rattle.parent_laws.proofs.Parents.{four_of, tets_have_parents}
+use Rattle.parent_laws.proofs.Parents.{tets_have_parents}
 use Rattle.lattice_laws.proofs.Sublists.{all_by_place}
 use Rattle.stencil_laws.specs.Cases.{case_pieces}
 use Rattle.sound_laws.specs.Laws.{TetsArePositive}
 use Rattle.sound_laws.proofs.Values.{values_by, are_cut_numbers, cut_value, row_value}
 use Rattle.sound_laws.proofs.Rows.{column, column_sum, column_place, sum_of_rows, place_of_rows, moved_place}
+use Rattle.lattice_laws.proofs.Members.{all_from_members}
+use Rattle.lattice_laws.proofs.Lists.{four_of}
 
 -- ---- the rows of a node
 

@@ -12,7 +12,6 @@ use Rattle.triangle_laws.proofs.Partners.{triangles_are_shared, boundaries_close
 use Rattle.node_laws.proofs.Padding.{states_are_padded}
 use Rattle.node_laws.proofs.PlusVertices.{plus_vertices_are_nodes, minus_vertices_are_no_nodes}
 use Rattle.face_laws.proofs.NumberedBoundary.{mesh_boundary_is_level}
-use Rattle.triangle_laws.proofs.Sums.{all_from_members}
 use Rattle.parent_laws.specs.Parents.{Parent, node_number}
 use Rattle.parent_laws.proofs.OrientedPieces.{length_oriented}
 use Rattle.parent_laws.proofs.Parents.{tets_have_parents}
@@ -20,6 +19,7 @@ use Rattle.sound_laws.specs.Laws.{BoundaryIsClosed, MeshIsSound}
 use Rattle.sound_laws.proofs.Positive.{tets_are_positive}
 use Rattle.sound_laws.proofs.Meeting.{piece_of, tets_meet}
 use Rattle.sound_laws.proofs.Different.{tets_differ}
+use Rattle.lattice_laws.proofs.Members.{all_from_members}
 
 parent_has_four : (f : Field) (s : Shares) (t : List ℕ) → Parent f s t → length t ≡ 4
 parent_has_four f s t o =
@@ -27,7 +27,7 @@ parent_has_four f s t o =
     ap length o.nodes ∙ (length-map (oriented o.tet o.piece) (node_number f s o.tet) ∙ (length_oriented o.tet o.piece ∙ p.four))
 
 -- what makes the mesh of a field conform
-mesh_conforms : (f : Field) (s : Shares) → IsShares s → AreConforming (mesh f s).places (mesh f s).tets
+pub mesh_conforms : (f : Field) (s : Shares) → IsShares s → AreConforming (mesh f s).places (mesh f s).tets
 mesh_conforms f s ok = record {
   four = all_by_place (λ t. length t ≡ 4) (mesh f s).tets (all_from_members (λ t. length t ≡ 4) (mesh f s).tets (λ t m. parent_has_four f s t (tets_have_parents f s t m)));
   positive = tets_are_positive f s ok;

@@ -25,7 +25,7 @@ use Rattle.moved_lattice.specs.WeightedSums.{sum4}
 use Rattle.stencil_laws.specs.Weights.{weighted_sum, weight_at}
 use Rattle.piece_laws.specs.Renaming.{renamed}
 use Rattle.piece_laws.proofs.PiecesMeet.{in_slots}
-use Rattle.parent_laws.proofs.Parents.{four_of}
+use Rattle.lattice_laws.proofs.Lists.{four_of}
 
 -- ---- weighted sums
 pub sum_same : (f g : Corner → ℤ) (ws : List ℕ) (p : List Corner) → ((c : Corner) → Has c p → f c ≡ g c) → weighted_sum ws p f ≡ weighted_sum ws p g

@@ -1,5 +1,5 @@
 -- What a desk means, and what its calls do to it. Bytes, texts and names are told by some desks and not by others: None is not told.
-use Rattle.std.specs.Prelude.{◌≡◌, ℕ, ◌≤◌, List, [], ◌∷◌, ◌++◌, length, take, Bool, true, false, IfSome, Option, Some, if◌then◌else◌, ⊤}
+use Rattle.std.specs.Prelude.{◌≡◌, ◌≢◌, ℕ, ◌≤◌, List, [], ◌∷◌, ◌++◌, length, take, Bool, true, false, IfSome, Option, Some, if◌then◌else◌, ⊤}
 use Rattle.std.specs.Io.KnownBytes.{Appends}
 use Rattle.std.specs.Option.{option_map}
 use Rattle.formats.specs.declared.Port.{Port}
@@ -72,3 +72,27 @@ pub record IsStart (input : InputState) (ports : Port → PortState) (tried : Op
 -- a told text has grown by some front of the bytes
 abbrev pub AppendsPart : Option (List ℕ) → Option (List ℕ) → List ℕ → Type 0
 AppendsPart old new bytes = (n : ℕ) × (n ≤ length bytes) × Appends old new (take n bytes)
+
+-- A port may have changed, and all else of a desk is as it was: the input, the other ports, the names that were opened, and what is held.
+pub record KeepsAllButPort {S : Type 0} (input_of : S → InputState) (ports_of : S → Port → PortState) (tried_of : S → Option (List (List ℕ))) (held_of : S → List ℕ → Option (List ℕ)) (port : Port) (old new : S) : Type 0 where
+  pub input : input_of new ≡ input_of old
+  pub others : (p : Port) → p ≢ port → ports_of new p ≡ ports_of old p
+  pub tried : tried_of new ≡ tried_of old
+  pub held : (name : List ℕ) → held_of new name ≡ held_of old name
+
+-- The input may have changed, and all else of a desk is as it was.
+pub record KeepsAllButInput {S : Type 0} (ports_of : S → Port → PortState) (tried_of : S → Option (List (List ℕ))) (held_of : S → List ℕ → Option (List ℕ)) (old new : S) : Type 0 where
+  pub ports : (p : Port) → ports_of new p ≡ ports_of old p
+  pub tried : tried_of new ≡ tried_of old
+  pub held : (name : List ℕ) → held_of new name ≡ held_of old name
+
+-- A port and the names that were opened may have changed, and all else is as it was.
+pub record KeepsAllButOpening {S : Type 0} (input_of : S → InputState) (ports_of : S → Port → PortState) (held_of : S → List ℕ → Option (List ℕ)) (port : Port) (old new : S) : Type 0 where
+  pub input : input_of new ≡ input_of old
+  pub others : (p : Port) → p ≢ port → ports_of new p ≡ ports_of old p
+  pub held : (name : List ℕ) → held_of new name ≡ held_of old name
+
+-- The input and the names that were opened may have changed, and all else is as it was.
+pub record KeepsAllButOpeningInput {S : Type 0} (ports_of : S → Port → PortState) (held_of : S → List ℕ → Option (List ℕ)) (old new : S) : Type 0 where
+  pub ports : (p : Port) → ports_of new p ≡ ports_of old p
+  pub held : (name : List ℕ) → held_of new name ≡ held_of old name

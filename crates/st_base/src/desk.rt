@@ -3,7 +3,7 @@ ghost use Rattle.std.specs.Io.{ReadsAtMost, WritesAtMost};
 ghost use Rattle.std.specs.Io.KnownBytes.{ReadConsumes, WriteAppends};
 ghost use Rattle.formats.specs.declared.Port.{Port};
 ghost use Rattle.st_base.specs.Causes.{HasCause};
-ghost use Rattle.st_base.specs.Desk.{InputState, PortState, with_name, MayTry, IsTold, IsFile, BeginsAs, SamePort, SameInput};
+ghost use Rattle.st_base.specs.Desk.{InputState, PortState, with_name, MayTry, IsTold, IsFile, BeginsAs, SamePort, SameInput, KeepsAllButInput, KeepsAllButOpening, KeepsAllButOpeningInput, KeepsAllButPort};
 
 use formats::Port;
 
@@ -37,8 +37,7 @@ pub trait Desk {
         ensures as_before { OnErr result (SameInput (input self.old) (input self.new)) }
         ensures tried { OnOk result (tried self.new ≡ with_name (tried self.old) name.now) }
         ensures may_try { OnErr result (MayTry (tried self.old) (tried self.new) name.now) }
-        ensures ports { (p : Port) → ports self.new p ≡ ports self.old p }
-        ensures held { (n : List ℕ) → held self.new n ≡ held self.old n }
+        ensures apart { KeepsAllButOpeningInput ports held self.old self.new }
         ensures cause { HasCause (input self.old).faults (input self.new).faults result };
 
     /// Moves at least one byte of the open input into the first places, or none where nothing is
@@ -49,9 +48,7 @@ pub trait Desk {
         ensures bound { ReadsAtMost result into.new }
         ensures bytes { ReadConsumes (input self.old).left (input self.new).left result into.new }
         ensures is_open { (input self.new).is_open ≡ true }
-        ensures tried { tried self.new ≡ tried self.old }
-        ensures ports { (p : Port) → ports self.new p ≡ ports self.old p }
-        ensures held { (n : List ℕ) → held self.new n ≡ held self.old n }
+        ensures apart { KeepsAllButInput ports tried held self.old self.new }
         ensures cause { HasCause (input self.old).faults (input self.new).faults result };
 
     /// Opens the port Node or Ele with an empty text. Failed leaves it as it was.
@@ -63,9 +60,7 @@ pub trait Desk {
         ensures as_before { OnErr result (SamePort (ports self.old port) (ports self.new port)) }
         ensures tried { OnOk result (tried self.new ≡ with_name (tried self.old) name.now) }
         ensures may_try { OnErr result (MayTry (tried self.old) (tried self.new) name.now) }
-        ensures input { input self.new ≡ input self.old }
-        ensures others { (p : Port) → p ≢ port → ports self.new p ≡ ports self.old p }
-        ensures held { (n : List ℕ) → held self.new n ≡ held self.old n }
+        ensures apart { KeepsAllButOpening input ports held port self.old self.new }
         ensures cause { HasCause (ports self.old port).faults (ports self.new port).faults result };
 
     /// Appends some first bytes to the port's text, at least one where there are any, and answers
@@ -77,10 +72,7 @@ pub trait Desk {
         ensures text { WriteAppends (ports self.old port).text (ports self.new port).text result bytes.now }
         ensures is_open { (ports self.new port).is_open ≡ true }
         ensures name { (ports self.new port).name ≡ (ports self.old port).name }
-        ensures tried { tried self.new ≡ tried self.old }
-        ensures input { input self.new ≡ input self.old }
-        ensures others { (p : Port) → p ≢ port → ports self.new p ≡ ports self.old p }
-        ensures held { (n : List ℕ) → held self.new n ≡ held self.old n }
+        ensures apart { KeepsAllButPort input ports tried held port self.old self.new }
         ensures cause { HasCause (ports self.old port).faults (ports self.new port).faults result };
 
     /// Ends the use of a port, whatever it answers.
@@ -89,9 +81,6 @@ pub trait Desk {
         ensures closed { (ports self.new port).is_open ≡ false }
         ensures text { (ports self.new port).text ≡ (ports self.old port).text }
         ensures name { (ports self.new port).name ≡ (ports self.old port).name }
-        ensures tried { tried self.new ≡ tried self.old }
-        ensures input { input self.new ≡ input self.old }
-        ensures others { (p : Port) → p ≢ port → ports self.new p ≡ ports self.old p }
-        ensures held { (n : List ℕ) → held self.new n ≡ held self.old n }
+        ensures apart { KeepsAllButPort input ports tried held port self.old self.new }
         ensures cause { HasCause (ports self.old port).faults (ports self.new port).faults result };
 }

@@ -19,6 +19,12 @@ pub struct Tally {
 
 impl Tally {
     /// A ledger that begins at 0.
+    ///
+    /// ```
+    /// let mut tally = Tally::new();
+    /// tally.add(3);
+    /// let three = tally.count();
+    /// ```
     pub fn new() -> Tally
         ensures { result.count ≡ 0 }
     {

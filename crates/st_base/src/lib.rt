@@ -14,7 +14,7 @@ mod words;
 
 pub use definitions::{Dims, Place, Sign, Vertex};
 pub use desk::{Desk, Failed};
-pub use formats::{Head, HeadFault, Key, Kind, Limits, Port, Status};
+pub use formats::{Head, HeadFault, Key, Kind, Limits, MeshFault, Port, Status, Verdict};
 pub use gate::{Gate, OpenGate};
 pub use ledger::{Ledger, Tally};
 pub use memory::NoMemory;

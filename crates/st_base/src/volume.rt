@@ -38,6 +38,12 @@ impl Model for Volume {
 
 impl Volume {
     /// The volume of these samples.
+    ///
+    /// ```
+    /// let dims = Dims { nx: 2, ny: 1, nz: 1 };
+    /// let volume = Volume::new(dims, 1, Kind::Uchar, samples);
+    /// let second = volume.sample(1, 0, 0);
+    /// ```
     pub fn new(dims: Dims, step: u32, kind: Kind, samples: Vec<i64>) -> Volume
         requires { IsVolume (record { dims = dims; step = step; kind = kind; samples = samples.items }) }
         ensures { result ≡ record { dims = dims; step = step; kind = kind; samples = samples.items } }

@@ -21,6 +21,12 @@ impl Model for Words {
 
 impl Words {
     /// No words.
+    ///
+    /// ```
+    /// let mut words = Words::new(alloc);
+    /// words.push(b"count")?;
+    /// words.push(b"a.mha")?;
+    /// ```
     pub fn new(alloc: Global) -> Words
         ensures { result ≡ [] }
     {

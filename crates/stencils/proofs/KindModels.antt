@@ -11,6 +11,7 @@ use Rattle.lattice_laws.specs.Vectors.{Vector, vector, ◌+ᵥ◌, x_of, y_of, z
 use Rattle.lattice_laws.specs.NumberedTetrahedra.{IsNumberedTet}
 use Rattle.lattice_laws.proofs.SixKinds.{kind_of_tet}
 use Rattle.stencils.proofs.Translated.{IsMoved}
+use Rattle.lattice_laws.proofs.Lists.{four_of}
 
 -- a tetrahedron of each kind
 abbrev pub kind_model : Kind → List Vertex
@@ -36,14 +37,6 @@ at_first a = omega (arith, ints)
 
 at_later : (a b : ℕ) (o m : ℤ) → pos b ≡ pos a +ℤ o → m ≡ pos 2 +ℤ o → pos b ≡ m +ℤ (pos a +ℤ negsuc 1)
 at_later a b o m e f = omega (arith, ints)
-
-four_of : {X : Type 0} (xs : List X) → length xs ≡ 4 → (a : X) × (b : X) × (c : X) × (d : X) × (xs ≡ a ∷ b ∷ c ∷ d ∷ [])
-four_of (a ∷ b ∷ c ∷ d ∷ []) h = (a, b, c, d, refl)
-four_of [] h = absurd (omega arith)
-four_of (a ∷ []) h = absurd (omega arith)
-four_of (a ∷ b ∷ []) h = absurd (omega arith)
-four_of (a ∷ b ∷ c ∷ []) h = absurd (omega arith)
-four_of (a ∷ b ∷ c ∷ d ∷ e ∷ more) h = absurd (omega arith)
 
 -- the vertices of a model, as steps from its first
 model_steps : (κ : Kind) → (vector_of (slot (kind_model κ) 1) ≡ vector (pos 2) (pos 2) (pos 2) +ᵥ offset κ slot_1) × (vector_of (slot (kind_model κ) 2) ≡ vector (pos 2) (pos 2) (pos 2) +ᵥ offset κ slot_2) × (vector_of (slot (kind_model κ) 3) ≡ vector (pos 2) (pos 2) (pos 2) +ᵥ offset κ slot_3) × (slot (kind_model κ) 0 ≡ vertex 2 2 2)

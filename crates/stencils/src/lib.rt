@@ -24,6 +24,12 @@ pub use filled::Pieces;
 use frames::frame_of;
 
 /// The pieces of a lattice tetrahedron with these signs: the keys of their nodes, oriented and in order.
+///
+/// ```
+/// let found = pieces(&tet, [Sign::Plus, Sign::Minus, Sign::Minus, Sign::Minus]);
+/// assert_eq!(found.len, 1);
+/// assert_eq!(found.of[0][0], 8 * tet.ids[0]);
+/// ```
 pub fn pieces(tet: &Tet, signs: [Sign; 4]) -> Pieces
     requires fit { All (λ id. 8 * id + 7 < 2 ^ 32) tet.now.ids }
     requires tet { IsNumberedTet tet.now.at tet.now.ids }
@@ -155,38 +161,4 @@ fn keys_at(keys: &[u32; 10], places: [u8; 4]) -> [u32; 4]
         keys[usize::from(c)],
         keys[usize::from(d)],
     ]
-}
-
-#[cfg(test)]
-mod tests {
-    use super::*;
-    use crate::Sign::{Minus, Plus};
-
-    // A vertex with its neighbours in directions 3, 4 and 7.
-    fn standing() -> Tet
-        ensures fit { All (λ id. 8 * id + 7 < 2 ^ 32) result.ids }
-        ensures numbered { IsNumberedTet result.at result.ids }
-    {
-        Tet {
-            at: [
-                Vertex { h: 2, y: 2, x: 2 },
-                Vertex { h: 3, y: 1, x: 1 },
-                Vertex { h: 3, y: 1, x: 3 },
-                Vertex { h: 4, y: 2, x: 2 },
-            ],
-            ids: [10, 20, 21, 40],
-        }
-    }
-
-    #[test]
-    fn a_wedge_has_three_pieces(rt: HostRuntime) {
-        let tet = standing();
-        let wedge = pieces(&tet, [Plus, Plus, Minus, Minus]);
-        assert_eq!(rt; wedge.len, 3);
-        assert_eq!(rt; wedge.of[0], [80, 84, 87, 166]);
-        assert_eq!(rt; wedge.of[1], [80, 84, 166, 161]);
-        assert_eq!(rt; wedge.of[2], [80, 160, 161, 166]);
-        assert_eq!(rt; node_key(&tet, Corner::Cut(1, 3)), 166);
-        assert_eq!(rt; pieces(&tet, [Minus; 4]).len, 0);
-    }
 }

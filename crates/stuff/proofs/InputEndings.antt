@@ -1,5 +1,5 @@
 -- How a command leaves its input.
-use Rattle.std.proofs.Common.{false, ◌≡◌, ◌≢◌, ◌⊎◌, inl, inr, ℕ, ◌<◌, List, Option, Some, None, refl, ap, sym, ◌∙◌, arith}
+use Rattle.std.proofs.Common.{Bool, true, false, ◌≡◌, ◌≢◌, ◌⊎◌, inl, inr, ℕ, ◌<◌, List, Option, Some, None, refl, ap, sym, ◌∙◌, subst, arith}
 use Rattle.formats.specs.declared.Port.{Port}
 use Rattle.formats.specs.declared.Status.{Status}
 use Rattle.formats.specs.declared.Status.TheVariants.{Done, BadWords, BadHeader, Unsupported, TooLarge, Truncated, ReadFault, WriteFault, NoMemory}
@@ -8,9 +8,11 @@ use Rattle.command_line.specs.declared.Plan.{Plan}
 use Rattle.st_base.specs.Desk.{InputState, IsTold}
 use Rattle.command_words.proofs.Places.{one_command, one_place}
 use Rattle.stuff.specs.Inputs.{Settings, settings_of, told_input, outcome_of, IsInput, IsLeft, BreaksOff}
-use Rattle.stuff.specs.Ports.{Reading, EndsAt, IsAtOutput}
+use Rattle.stuff.specs.Ports.{Reading, EndsAt, LacksMemoryAt, IsAtOutput}
 use Rattle.stuff.proofs.TextsWritten.{ReadsFile}
-use Rattle.stuff.specs.Ends.{InputEnds, Refuses, ReadsWhole, RefusesInput, IsRefusal, IsOutcome, WordsEnd, HoldsInput}
+use Rattle.std.specs.Prelude.{Ok}
+use Rattle.definitions.specs.Values.{Field}
+use Rattle.stuff.specs.Ends.{Accepts, ReadsField, InputEnds, Refuses, ReadsWhole, RefusesInput, IsRefusal, IsOutcome, WordsEnd, HoldsInput}
 
 -- an input was refused
 pub refusal_ends : (status : Status) (P : List ℕ → Settings → Type 0) (now : InputState) → IsRefusal status → (status ≡ ReadFault → 0 < now.faults) → (status ≢ ReadFault → now.faults ≡ 0)
@@ -26,16 +28,20 @@ refusal_ends (WriteFault port) P now is broke whole told = absurd is
 refusal_ends NoMemory P now is broke whole told = record { faults = whole (λ e. cc); told = told }
 
 -- no port was used then
-pub refusal_reads : (status : Status) → IsRefusal status → EndsAt status Reading
-refusal_reads Done is = absurd is
-refusal_reads (BadWords place) is = absurd is
-refusal_reads (BadHeader fault) is = refl
-refusal_reads (Unsupported key) is = refl
-refusal_reads (TooLarge padded) is = refl
-refusal_reads (Truncated got wanted) is = refl
-refusal_reads ReadFault is = refl
-refusal_reads (WriteFault port) is = absurd is
-refusal_reads NoMemory is = inl refl
+lacks_while_reading : (files : Bool) → LacksMemoryAt files Reading
+lacks_while_reading true = inl refl
+lacks_while_reading false = refl
+
+pub refusal_reads : (status : Status) (files : Bool) → IsRefusal status → EndsAt status files Reading
+refusal_reads Done files is = absurd is
+refusal_reads (BadWords place) files is = absurd is
+refusal_reads (BadHeader fault) files is = refl
+refusal_reads (Unsupported key) files is = refl
+refusal_reads (TooLarge padded) files is = refl
+refusal_reads (Truncated got wanted) files is = refl
+refusal_reads ReadFault files is = refl
+refusal_reads (WriteFault port) files is = absurd is
+refusal_reads NoMemory files is = lacks_while_reading files
 
 -- the input was read whole
 pub whole_ends : (status : Status) (P : List ℕ → Settings → Type 0) (now : InputState) → IsAtOutput status → ReadsWhole P now → InputEnds status P now
@@ -76,17 +82,23 @@ opened words held c name left r n told text s i =
     (rw h at told, i.settings ∙ ap settings_of same)
 
 -- a demo has no input
+pub demo_has_none : (words : List (List ℕ)) (held : List ℕ → Option (List ℕ)) (c : Meaning) (size seed : ℕ) (plan : Plan) → Reads words c → c ≡ MakeDemo size seed plan → (text : List ℕ) (s : Settings) → IsInput words held text s → ⊥
+demo_has_none words held c size seed plan r e text s i =
+    let same : MakeDemo size seed plan ≡ i.command = sym e ∙ one_command words c i.command r i.reads in
+    let h : None ≡ Some text = ap (told_input held words) same ∙ i.told in
+    cc
+
+-- it has no input to leave
 pub no_input : (status : Status) (words : List (List ℕ)) (held : List ℕ → Option (List ℕ)) (c : Meaning) (size seed : ℕ) (plan : Plan) (now : InputState) → Reads words c → c ≡ MakeDemo size seed plan → IsAtOutput status → now.faults ≡ 0 → InputEnds status (IsInput words held) now
-no_input status words held c size seed plan now r e is none = whole_ends status (IsInput words held) now is (record { faults = none; told = λ text s i. absurd (nothing text s i) })
-  where
-    nothing : (text : List ℕ) (s : Settings) → IsInput words held text s → ⊥
-    nothing text s i =
-        let same : MakeDemo size seed plan ≡ i.command = sym e ∙ one_command words c i.command r i.reads in
-        let h : None ≡ Some text = ap (told_input held words) same ∙ i.told in
-        cc
+no_input status words held c size seed plan now r e is none = whole_ends status (IsInput words held) now is (record { faults = none; told = λ text s i. absurd (demo_has_none words held c size seed plan r e text s i) })
 
 pub bad_words : (words : List (List ℕ)) (held : List ℕ → Option (List ℕ)) (place : ℕ) (now : InputState) → IsBadPlace words place → now.faults ≡ 0 → InputEnds (BadWords place) (IsInput words held) now
 bad_words words held place now bad none = record { faults = none; told = λ text s i. absurd (bad.unread i.command i.reads) }
+
+-- a field was read whole
+pub accepts_field : (said s : Settings) (f : Field) (text : List ℕ) (mid now : InputState) → said ≡ s → now ≡ mid → ReadsField (Ok f) said text mid.left → Accepts s.step text now.left
+accepts_field said s f text mid now e same r =
+    subst (λ (x : Settings). Accepts x.step text now.left) e (subst (λ (i : InputState). Accepts said.step text i.left) (sym same) (r.2.1, r.2.2))
 
 -- ---- what follows
 
@@ -152,8 +164,8 @@ outcome_read ReadFault P now e text s p is = absurd is
 outcome_read (WriteFault port) P now e text s p is = absurd is
 outcome_read NoMemory P now e text s p is = absurd is
 
-pub whole_at_write_fault : (status : Status) (port : Port) (P : List ℕ → Settings → Type 0) (now : InputState) → InputEnds status P now → status ≡ WriteFault port → (text : List ℕ) (s : Settings) → P text s → IsLeft text (outcome_of s.step text).taken now.left
-whole_at_write_fault status port P now e same text s p = ((rw same at e).told text s p).1
+pub whole_at_write_fault : (status : Status) (port : Port) (P : List ℕ → Settings → Type 0) (now : InputState) → InputEnds status P now → status ≡ WriteFault port → (text : List ℕ) (s : Settings) → P text s → Accepts s.step text now.left
+whole_at_write_fault status port P now e same text s p = (rw same at e).told text s p
 
 pub breaks_at_read_fault : (status : Status) (P : List ℕ → Settings → Type 0) (now : InputState) → InputEnds status P now → status ≡ ReadFault → (text : List ℕ) (s : Settings) → P text s → (now.is_open ≡ false) ⊎ BreaksOff s.step text now.left
 breaks_at_read_fault status P now e same text s p = (rw same at e).1 text s p

@@ -7,17 +7,9 @@ use Rattle.formats.specs.declared.Port.TheVariants.{Node, Ele, Report, Trouble}
 use Rattle.formats.specs.declared.Status.{Status}
 use Rattle.formats.specs.declared.Status.TheVariants.{Done, BadWords, BadHeader, Unsupported, TooLarge, Truncated, ReadFault, WriteFault, NoMemory}
 use Rattle.st_base.specs.Desk.{PortState, SamePort, AppendsPart}
-use Rattle.stuff.specs.Ports.{Stage, Reading, OpeningNode, OpeningEle, WritingNode, WritingEle, WritingReport, Finished, EndsAt, Extent, Untouched, Unopened, Empty, Part, Whole, node_extent, ele_extent, report_extent, of_files, IsOpened, HoldsPart, HoldsAll, FileAt, ReportAt, TellsFault, PortsEnd, HasWritten}
+use Rattle.stuff.specs.Ports.{Stage, Reading, OpeningNode, OpeningEle, WritingNode, WritingEle, BeforeReport, WritingReport, Finished, EndsAt, Extent, Untouched, Unopened, Empty, Part, Whole, node_extent, ele_extent, report_extent, of_files, IsOpened, HoldsPart, HoldsAll, FileAt, ReportAt, TellsFault, PortsEnd, HasWritten}
 use Rattle.stuff.specs.Ends.{LeavesPorts}
 use Rattle.stuff.specs.Writing.{BothOpen, OneFails, IsWritten, IsBroken, Reports}
-
-appends_nothing : (a : Option (List ℕ)) → Appends a a []
-appends_nothing None = tt
-appends_nothing (Some xs) = sym (append-nil xs)
-
--- nothing is a front of a text
-pub part_of_nothing : (a b : Option (List ℕ)) (text : List ℕ) → b ≡ a → AppendsPart a b text
-part_of_nothing a b text e = (0, omega arith, subst (λ (x : Option (List ℕ)). Appends a x []) (sym e) (appends_nothing a))
 
 module _ {D : Type 0} (ports : D → Port → PortState) where
   -- no port but Trouble has a fault
@@ -55,21 +47,21 @@ module _ {D : Type 0} (ports : D → Port → PortState) where
 
   -- ---- ends at which no port was used
 
-  not_a_write_fault : (status : Status) → EndsAt status Reading → (p : Port) → status ≢ WriteFault p
-  not_a_write_fault Done at p e = cc
-  not_a_write_fault (BadWords place) at p e = cc
-  not_a_write_fault (BadHeader fault) at p e = cc
-  not_a_write_fault (Unsupported key) at p e = cc
-  not_a_write_fault (TooLarge padded) at p e = cc
-  not_a_write_fault (Truncated got wanted) at p e = cc
-  not_a_write_fault ReadFault at p e = cc
-  not_a_write_fault (WriteFault Node) (inl a) p e = cc
-  not_a_write_fault (WriteFault Node) (inr a) p e = cc
-  not_a_write_fault (WriteFault Ele) (inl a) p e = cc
-  not_a_write_fault (WriteFault Ele) (inr a) p e = cc
-  not_a_write_fault (WriteFault Report) at p e = cc
-  not_a_write_fault (WriteFault Trouble) at p e = absurd at
-  not_a_write_fault NoMemory at p e = cc
+  not_a_write_fault : (status : Status) (files : Bool) → EndsAt status files Reading → (p : Port) → status ≢ WriteFault p
+  not_a_write_fault Done files at p e = cc
+  not_a_write_fault (BadWords place) files at p e = cc
+  not_a_write_fault (BadHeader fault) files at p e = cc
+  not_a_write_fault (Unsupported key) files at p e = cc
+  not_a_write_fault (TooLarge padded) files at p e = cc
+  not_a_write_fault (Truncated got wanted) files at p e = cc
+  not_a_write_fault ReadFault files at p e = cc
+  not_a_write_fault (WriteFault Node) files (inl a) p e = cc
+  not_a_write_fault (WriteFault Node) files (inr a) p e = cc
+  not_a_write_fault (WriteFault Ele) files (inl a) p e = cc
+  not_a_write_fault (WriteFault Ele) files (inr a) p e = cc
+  not_a_write_fault (WriteFault Report) files at p e = cc
+  not_a_write_fault (WriteFault Trouble) files at p e = absurd at
+  not_a_write_fault NoMemory files at p e = cc
 
   untouched_file : (files : Bool) (p : Port) (name : List ℕ) (IsText : List ℕ → Type 0) (before after : D) → ports after p ≡ ports before p → FileAt ports p (of_files files Untouched) name IsText before after
   untouched_file true p name IsText before after same = same
@@ -82,7 +74,7 @@ module _ {D : Type 0} (ports : D → Port → PortState) where
     report = ap (λ (p : PortState). p.faults) (same Report (λ e. cc)) ∙ z.report;
   }
 
-  pub untouched : (status : Status) (files : Bool) (name : Port → List ℕ) (IsText : Port → List ℕ → Type 0) (before after : D) → EndsAt status Reading → ((p : Port) → p ≢ Trouble → ports after p ≡ ports before p) → NoFault before
+  pub untouched : (status : Status) (files : Bool) (name : Port → List ℕ) (IsText : Port → List ℕ → Type 0) (before after : D) → EndsAt status files Reading → ((p : Port) → p ≢ Trouble → ports after p ≡ ports before p) → NoFault before
       → PortsEnd ports status files name IsText before after
   untouched status files name IsText before after at same z = record {
     stage = Reading;
@@ -90,7 +82,7 @@ module _ {D : Type 0} (ports : D → Port → PortState) where
     node = untouched_file files Node (name Node) (IsText Node) before after (same Node (λ e. cc));
     ele = untouched_file files Ele (name Ele) (IsText Ele) before after (same Ele (λ e. cc));
     report = same Report (λ e. cc);
-    faults = tells_none status after (not_a_write_fault status at) (no_fault_later before after same z);
+    faults = tells_none status after (not_a_write_fault status files at) (no_fault_later before after same z);
   }
 
   -- a text was written to Report alone, or was not
@@ -176,16 +168,16 @@ module _ {D : Type 0} (ports : D → Port → PortState) where
   }
 
   -- a command that used no port left all of them
-  only_read : (status : Status) (stage : Stage) → LeavesPorts status → EndsAt status stage → stage ≡ Reading
-  only_read Done stage left at = absurd left
-  only_read (BadWords place) stage left at = at
-  only_read (BadHeader fault) stage left at = at
-  only_read (Unsupported key) stage left at = at
-  only_read (TooLarge padded) stage left at = at
-  only_read (Truncated got wanted) stage left at = at
-  only_read ReadFault stage left at = at
-  only_read (WriteFault p) stage left at = absurd left
-  only_read NoMemory stage left at = absurd left
+  only_read : (status : Status) (files : Bool) (stage : Stage) → LeavesPorts status → EndsAt status files stage → stage ≡ Reading
+  only_read Done files stage left at = absurd left
+  only_read (BadWords place) files stage left at = at
+  only_read (BadHeader fault) files stage left at = at
+  only_read (Unsupported key) files stage left at = at
+  only_read (TooLarge padded) files stage left at = at
+  only_read (Truncated got wanted) files stage left at = at
+  only_read ReadFault files stage left at = at
+  only_read (WriteFault p) files stage left at = absurd left
+  only_read NoMemory files stage left at = absurd left
 
   file_left : (files : Bool) (p : Port) (name : List ℕ) (IsText : List ℕ → Type 0) (before after : D) → FileAt ports p (of_files files Untouched) name IsText before after → ports after p ≡ ports before p
   file_left true p name IsText before after h = h
@@ -195,7 +187,7 @@ module _ {D : Type 0} (ports : D → Port → PortState) where
   ports_left status files name IsText before after left e = go
     where
       reading : e.stage ≡ Reading
-      reading = only_read status e.stage left e.at
+      reading = only_read status files e.stage left e.at
 
       go : (p : Port) → p ≢ Trouble → ports after p ≡ ports before p
       go Node t = file_left files Node (name Node) (IsText Node) before after (subst (λ (s : Stage). FileAt ports Node (of_files files (node_extent s)) (name Node) (IsText Node) before after) reading e.node)
@@ -206,7 +198,7 @@ module _ {D : Type 0} (ports : D → Port → PortState) where
   -- a command that was carried out has written all
   pub has_written : (status : Status) (files : Bool) (name : Port → List ℕ) (IsText : Port → List ℕ → Type 0) (before after : D) → status ≡ Done → PortsEnd ports status files name IsText before after → HasWritten ports files name IsText before after
   has_written status files name IsText before after done e =
-      let finished : e.stage ≡ Finished = subst (λ (s : Status). EndsAt s e.stage) done e.at in
+      let finished : e.stage ≡ Finished = subst (λ (s : Status). EndsAt s files e.stage) done e.at in
       record {
         node = subst (λ (s : Stage). FileAt ports Node (of_files files (node_extent s)) (name Node) (IsText Node) before after) finished e.node;
         ele = subst (λ (s : Stage). FileAt ports Ele (of_files files (ele_extent s)) (name Ele) (IsText Ele) before after) finished e.ele;
@@ -214,7 +206,7 @@ module _ {D : Type 0} (ports : D → Port → PortState) where
       }
 
   pub not_in_trouble : (status : Status) (files : Bool) (name : Port → List ℕ) (IsText : Port → List ℕ → Type 0) (before after : D) → PortsEnd ports status files name IsText before after → status ≢ WriteFault Trouble
-  not_in_trouble status files name IsText before after e same = subst (λ (s : Status). EndsAt s e.stage) same e.at
+  not_in_trouble status files name IsText before after e same = subst (λ (s : Status). EndsAt s files e.stage) same e.at
 
   -- no port has a fault that the status tells, where no port has one
   pub no_write_fault : (status : Status) (files : Bool) (name : Port → List ℕ) (IsText : Port → List ℕ → Type 0) (before after : D) → PortsEnd ports status files name IsText before after
@@ -377,11 +369,11 @@ module _ {D : Type 0} (ports : D → Port → PortState) where
           -- there was no memory for the counts
           pub report_fails : Ends NoMemory before tets
           report_fails = record {
-            stage = WritingReport;
+            stage = BeforeReport;
             at = inr (inr (inr refl));
             node = held_later Node nodes tets tets_node nodes_held;
             ele = all_held Ele nodes tets ele_open put_tets;
-            report = λ t e. part_of_nothing _ _ t (ap (λ (p : PortState). p.text) report_is);
+            report = report_is;
             faults = tells_none NoMemory tets (λ p q. cc) (record { node = node_none; ele = put_tets.faults; report = ap (λ (p : PortState). p.faults) (tets_report ∙ nodes_report) ∙ report_none });
           }
 

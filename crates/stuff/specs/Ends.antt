@@ -39,6 +39,10 @@ abbrev pub ReadsField : Result Field Status → Settings → List ℕ → Option
 ReadsField (Ok f) s text left = (v : Volume) × (f ≡ field_from s v) × ReadsInput (Ok v) s.step text left
 ReadsField (Err status) s text left = RefusesInput status s.step text left
 
+-- a told input holds a volume, and was read whole
+abbrev pub Accepts : ℕ → List ℕ → Option (List ℕ) → Type 0
+Accepts step text left = ((outcome_of step text).status ≡ Done) × IsLeft text (outcome_of step text).taken left
+
 -- the sizes with their step are those of an image within the limits
 pub record AreKept (step : ℕ) (d : Dims) : Type 0 where
   pub nx : step * d.nx ≤ 8255
@@ -66,7 +70,7 @@ pub record Refuses (status : Status) (IsTold : List ℕ → Settings → Type 0)
 -- the volume of the input was read
 pub record ReadsWhole (IsTold : List ℕ → Settings → Type 0) (now : InputState) : Type 0 where
   pub faults : now.faults ≡ 0
-  pub told : (text : List ℕ) (s : Settings) → IsTold text s → ((outcome_of s.step text).status ≡ Done) × IsLeft text (outcome_of s.step text).taken now.left
+  pub told : (text : List ℕ) (s : Settings) → IsTold text s → Accepts s.step text now.left
 
 -- how a command leaves its input, status by status
 abbrev pub InputEnds : Status → (List ℕ → Settings → Type 0) → InputState → Type 0

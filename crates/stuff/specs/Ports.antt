@@ -7,25 +7,31 @@ use Rattle.formats.specs.declared.Status.{Status}
 use Rattle.formats.specs.declared.Status.TheVariants.{Done, WriteFault, NoMemory}
 use Rattle.st_base.specs.Desk.{PortState, BeginsAs, SamePort, AppendsPart}
 
--- How far a command came: it used no port; it could not open a file; it was in the midst of a port's text; it wrote all.
+-- How far a command came: it used no port; it could not open a file; it was in the midst of a port's text, or between those of its files and that of Report; it wrote all.
 pub data Stage : Type 0 where
   Reading : Stage
   OpeningNode : Stage
   OpeningEle : Stage
   WritingNode : Stage
   WritingEle : Stage
+  BeforeReport : Stage
   WritingReport : Stage
   Finished : Stage
 
--- how far a command with a status can have come
-abbrev pub EndsAt : Status → Stage → Type 0
-EndsAt Done stage = stage ≡ Finished
-EndsAt (WriteFault Node) stage = (stage ≡ OpeningNode) ⊎ (stage ≡ WritingNode)
-EndsAt (WriteFault Ele) stage = (stage ≡ OpeningEle) ⊎ (stage ≡ WritingEle)
-EndsAt (WriteFault Report) stage = stage ≡ WritingReport
-EndsAt (WriteFault Trouble) stage = ⊥
-EndsAt NoMemory stage = (stage ≡ Reading) ⊎ ((stage ≡ WritingNode) ⊎ ((stage ≡ WritingEle) ⊎ (stage ≡ WritingReport)))
-EndsAt status stage = stage ≡ Reading
+-- how far a command can have come where memory ran out: it used no port; or, if it writes files, it had opened both and wrote one of them, or had written both
+abbrev pub LacksMemoryAt : Bool → Stage → Type 0
+LacksMemoryAt true stage = (stage ≡ Reading) ⊎ ((stage ≡ WritingNode) ⊎ ((stage ≡ WritingEle) ⊎ (stage ≡ BeforeReport)))
+LacksMemoryAt false stage = stage ≡ Reading
+
+-- how far a command with a status can have come; `files` says whether it writes files
+abbrev pub EndsAt : Status → Bool → Stage → Type 0
+EndsAt Done files stage = stage ≡ Finished
+EndsAt (WriteFault Node) files stage = (stage ≡ OpeningNode) ⊎ (stage ≡ WritingNode)
+EndsAt (WriteFault Ele) files stage = (stage ≡ OpeningEle) ⊎ (stage ≡ WritingEle)
+EndsAt (WriteFault Report) files stage = stage ≡ WritingReport
+EndsAt (WriteFault Trouble) files stage = ⊥
+EndsAt NoMemory files stage = LacksMemoryAt files stage
+EndsAt status files stage = stage ≡ Reading
 
 -- no port but Trouble has a fault
 abbrev pub HasNoFault : (Port → PortState) → Type 0
@@ -107,7 +113,7 @@ TellsFault status p port = (status ≡ WriteFault p) ↔ (0 < port.faults)
 -- How a command leaves the ports: `files` says whether it writes files, `name` is what they are called, and `IsText p text` that a port's text is this one.
 pub record PortsEnd {D : Type 0} (ports : D → Port → PortState) (status : Status) (files : Bool) (name : Port → List ℕ) (IsText : Port → List ℕ → Type 0) (before after : D) : Type 0 where
   pub stage : Stage
-  pub at : EndsAt status stage
+  pub at : EndsAt status files stage
   pub node : FileAt ports Node (of_files files (node_extent stage)) (name Node) (IsText Node) before after
   pub ele : FileAt ports Ele (of_files files (ele_extent stage)) (name Ele) (IsText Ele) before after
   pub report : ReportAt (report_extent stage) (IsText Report) (ports before Report) (ports after Report)

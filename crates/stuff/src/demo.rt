@@ -6,15 +6,17 @@ ghost use Rattle.command_line.specs.Grammar.{IsPlan};
 ghost use Rattle.definitions.specs.Mesh.{mesh};
 ghost use Rattle.definitions.specs.States.{IsShares};
 ghost use Rattle.mesh_texts.specs.Report.{report};
+ghost use Rattle.st_base.specs.Frames.{OnlyPort};
 ghost use Rattle.stuff.specs.Ports.{IsAtOutput, PortsEnd};
 ghost use Rattle.stuff.specs.Outputs.{demo_field, demo_text, usual_shares};
 ghost use Rattle.stuff.specs.Traces.{IsTraceOf, TracesMesh};
 
-use crate::files::{report_of, write_report};
+use crate::files::write_report;
 use crate::signs::sign_text;
 use crate::surveyed::{keep_trace, node_count, source_of, survey_of, tet_count};
 use command_line::Plan;
 use mesh_rounds::extremes;
+use node_ele_write::report_text;
 use phantom::phantom;
 use samples::{Field, Level};
 use snap_rule::Shares;
@@ -32,9 +34,7 @@ fn field_of_demo(alloc: Global, size: u32, seed: u64) -> Result<Field, NoMemory>
     let Some(level) = Level::new(399) else {
         unreachable!()
     };
-    let Ok(volume) = phantom(alloc, size, seed) else {
-        return Err(NoMemory);
-    };
+    let volume = phantom(alloc, size, seed)?;
     Field::new(alloc, &volume, level, false)
 }
 
@@ -54,10 +54,8 @@ fn report_of_survey<G: Gate + Sync, R: Threads + Sync>(
     let source = source_of(survey);
     let nodes = node_count(survey);
     let tets = tet_count(survey);
-    match extremes(rt, alloc, &source, workers, gate) {
-        Ok(extremes) => report_of(alloc, &source, nodes, tets, extremes),
-        Err(fault) => Err(fault),
-    }
+    let extremes = extremes(rt, alloc, &source, workers, gate)?;
+    report_text(alloc, nodes, tets, extremes)
 }
 
 // The report of the mesh of a field, with the usual shares.
@@ -75,13 +73,9 @@ fn report_of_field<G: Gate + Sync, R: Threads + Sync>(
     let Some(shares) = Shares::new(1023, 1687) else {
         unreachable!()
     };
-    match survey_of(rt, alloc, field, shares, plan, gate) {
-        Ok(survey) => match report_of_survey(rt, alloc, &survey, plan.workers, gate) {
-            Ok(text) => Ok((text, survey.into_trace())),
-            Err(fault) => Err(fault),
-        },
-        Err(fault) => Err(fault),
-    }
+    let survey = survey_of(rt, alloc, field, shares, plan, gate)?;
+    let text = report_of_survey(rt, alloc, &survey, plan.workers, gate)?;
+    Ok((text, survey.into_trace()))
 }
 
 // The line of a field's signs, and the report of its mesh.
@@ -96,12 +90,8 @@ fn text_of_field<G: Gate + Sync, R: Threads + Sync>(
     ensures text { IfOk result (λ r. r.0.items ≡ sign_line field.now ++ report (mesh field.now usual_shares)) }
     ensures trace { IfOk result (λ r. IsTraceOf field.now usual_shares plan.slab r.1) }
 {
-    let Ok(mut text) = sign_text(alloc, field) else {
-        return Err(NoMemory);
-    };
-    let Ok((report, trace)) = report_of_field(rt, alloc, field, plan, gate) else {
-        return Err(NoMemory);
-    };
+    let mut text = sign_text(alloc, field)?;
+    let (report, trace) = report_of_field(rt, alloc, field, plan, gate)?;
     if text.extend_from_slice(&report).is_err() {
         return Err(NoMemory);
     }
@@ -123,10 +113,8 @@ fn text_of_demo<G: Gate + Sync, R: Threads + Sync>(
     ensures text { IfOk result (λ r. r.0.items ≡ demo_text (demo_field size seed) Report) }
     ensures trace { IfOk result (λ r. IsTraceOf (demo_field size seed) usual_shares plan.slab r.1) }
 {
-    match field_of_demo(alloc, size, seed) {
-        Ok(field) => text_of_field(rt, alloc, &field, plan, gate),
-        Err(fault) => Err(fault),
-    }
+    let field = field_of_demo(alloc, size, seed)?;
+    text_of_field(rt, alloc, &field, plan, gate)
 }
 
 /// Makes a volume from a size and a seed, counts its signs at level 199.5, meshes it, and writes the line of signs
@@ -149,12 +137,10 @@ pub fn make_demo<D: Desk, G: Gate + Sync, R: Threads + Sync>(
     requires faults { (p : Port) → p ≢ Trouble → (D.ports desk.old p).faults ≡ 0 }
     ensures trace { TracesMesh result (demo_field size seed) usual_shares plan.slab trace.new }
     ensures kind { IsAtOutput result }
+    ensures report_open { (D.ports desk.new Report).is_open ≡ true }
     ensures ends { (name : Port → List ℕ) → PortsEnd D.ports result false name (λ p text. text ≡ demo_text (demo_field size seed) p) desk.old desk.new }
     ensures no_memory { result ≡ Status.NoMemory → (p : Port) → p ≢ Trouble → D.ports desk.new p ≡ D.ports desk.old p }
-    ensures tried { D.tried desk.new ≡ D.tried desk.old }
-    ensures input { D.input desk.new ≡ D.input desk.old }
-    ensures trouble { D.ports desk.new Trouble ≡ D.ports desk.old Trouble }
-    ensures held { (n : List ℕ) → D.held desk.new n ≡ D.held desk.old n }
+    ensures apart { OnlyPort D.Desk Report desk.old desk.new }
 {
     match text_of_demo(rt, alloc, size, seed, plan, gate) {
         Ok((text, found)) => {

@@ -2,12 +2,12 @@ ghost use Rattle.std.specs.Prelude.{◌≡◌, ◌≢◌, ◌++◌, ◌∷◌, [
 ghost use Rattle.std.specs.Io.KnownBytes.{Appends};
 ghost use Rattle.st_base.specs.Causes.{Rose};
 ghost use Rattle.st_base.specs.Desk.{AppendsPart, MayTry, SamePort, with_name};
+ghost use Rattle.st_base.specs.Frames.{OnlyPort};
 ghost use Rattle.definitions.specs.Angles.{angles, extremes_of};
 ghost use Rattle.formats.specs.declared.Port.{Port};
 ghost use Rattle.formats.specs.declared.Port.TheVariants.{Node, Ele, Report, Trouble};
 ghost use Rattle.node_ele_write.specs.Printable.{IsPrintable};
 ghost use Rattle.mesh_texts.specs.Files.{node_text, ele_text};
-ghost use Rattle.mesh_texts.specs.Report.{report};
 ghost use Rattle.mesh_lists.specs.Parts.{mesh_of};
 ghost use Rattle.stuff.specs.Ports.{IsAtOutput, PortsEnd};
 ghost use Rattle.stuff.specs.Outputs.{mesh_text};
@@ -61,10 +61,7 @@ fn write_nodes<D: Desk, G: Gate + Sync, R: Threads + Sync>(
     requires most_workers { workers ≤ 64 }
     ensures kind { IfErr result IsAtOutput }
     ensures puts { Puts result Node (D.ports desk.old Node) (D.ports desk.new Node) (node_text step (mesh_of source.now.field source.now.states).places) }
-    ensures tried { D.tried desk.new ≡ D.tried desk.old }
-    ensures input { D.input desk.new ≡ D.input desk.old }
-    ensures others { (p : Port) → p ≢ Node → D.ports desk.new p ≡ D.ports desk.old p }
-    ensures held { (n : List ℕ) → D.held desk.new n ≡ D.held desk.old n }
+    ensures apart { OnlyPort D.Desk Node desk.old desk.new }
 {
     match put_nodes(rt, alloc, desk, Port::Node, source, step, workers, gate) {
         Ok(()) => {}
@@ -93,10 +90,7 @@ fn write_tets<D: Desk, G: Gate + Sync, R: Threads + Sync>(
     ensures kind { IfErr result IsAtOutput }
     ensures puts { Puts result Ele (D.ports desk.old Ele) (D.ports desk.new Ele) (ele_text (mesh_of source.now.field source.now.states).tets) }
     ensures extremes { IfOk result (λ e. e ≡ extremes_of (angles (mesh_of source.now.field source.now.states))) }
-    ensures tried { D.tried desk.new ≡ D.tried desk.old }
-    ensures input { D.input desk.new ≡ D.input desk.old }
-    ensures others { (p : Port) → p ≢ Ele → D.ports desk.new p ≡ D.ports desk.old p }
-    ensures held { (n : List ℕ) → D.held desk.new n ≡ D.held desk.old n }
+    ensures apart { OnlyPort D.Desk Ele desk.old desk.new }
 {
     let extremes = match put_tets(rt, alloc, desk, Port::Ele, source, workers, gate) {
         Ok(extremes) => extremes,
@@ -114,32 +108,14 @@ pub fn write_report<D: Desk>(desk: &mut D, text: &[u8]) -> Status
     requires is_open { (D.ports desk.old Report).is_open ≡ true }
     requires faults { (D.ports desk.old Report).faults ≡ 0 }
     ensures kind { IsAtOutput result }
+    ensures is_open { (D.ports desk.new Report).is_open ≡ true }
     ensures reports { Reports result (D.ports desk.old Report) (D.ports desk.new Report) text.now }
-    ensures tried { D.tried desk.new ≡ D.tried desk.old }
-    ensures input { D.input desk.new ≡ D.input desk.old }
-    ensures others { (p : Port) → p ≢ Report → D.ports desk.new p ≡ D.ports desk.old p }
-    ensures held { (n : List ℕ) → D.held desk.new n ≡ D.held desk.old n }
+    ensures apart { OnlyPort D.Desk Report desk.old desk.new }
 {
     match put_all(desk, Port::Report, text) {
         Ok(()) => Status::Done,
         Err(WriteFault) => Status::WriteFault { port: Port::Report },
     }
-}
-
-/// The report of a mesh: how large it is, and its least and its greatest angle.
-pub fn report_of(
-    alloc: Global,
-    _source: &Source,
-    nodes: u32,
-    tets: u64,
-    extremes: Option<Extremes>,
-) -> Result<Vec<u8>, NoMemory>
-    requires nodes { nodes ≡ length (mesh_of _source.now.field _source.now.states).places }
-    requires tets { tets ≡ length (mesh_of _source.now.field _source.now.states).tets }
-    requires extremes { extremes ≡ extremes_of (angles (mesh_of _source.now.field _source.now.states)) }
-    ensures { IfOk result (λ text. text.items ≡ report (mesh_of _source.now.field _source.now.states)) }
-{
-    report_text(alloc, nodes, tets, extremes)
 }
 
 /// Writes a mesh to the two files, round by round, and its report to Report.
@@ -166,6 +142,7 @@ pub fn write_mesh<D: Desk, G: Gate + Sync, R: Threads + Sync>(
     requires some_workers { 1 ≤ workers }
     requires most_workers { workers ≤ 64 }
     ensures kind { IsAtOutput result }
+    ensures report_open { (D.ports desk.new Report).is_open ≡ true }
     ensures ends { (name : Port → List ℕ) → name Node ≡ node_name.now → name Ele ≡ ele_name.now → PortsEnd D.ports result true name (λ p text. text ≡ mesh_text step (mesh_of source.now.field source.now.states) p) desk.old desk.new }
     ensures tries { GrowsAlong (node_name.now ∷ ele_name.now ∷ []) (D.tried desk.old) (D.tried desk.new) }
     ensures all_tried { result ≡ Status.Done → D.tried desk.new ≡ with_names (D.tried desk.old) (node_name.now ∷ ele_name.now ∷ []) }
@@ -185,7 +162,7 @@ pub fn write_mesh<D: Desk, G: Gate + Sync, R: Threads + Sync>(
         Ok(extremes) => extremes,
         Err(status) => return status,
     };
-    match report_of(alloc, source, nodes, tets, extremes) {
+    match report_text(alloc, nodes, tets, extremes) {
         Ok(text) => write_report(desk, &text),
         Err(NoMemory) => Status::NoMemory,
     }

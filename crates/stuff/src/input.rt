@@ -1,8 +1,8 @@
 ghost use Rattle.std.specs.Prelude.{◌≡◌, ◌≢◌, ◌≤◌, ◌<◌, ℕ, List, true, Some, Ok, Err, IfOk, IfErr, IsErrOf};
 ghost use Rattle.definitions.specs.Values.{Field as FieldValue};
 ghost use Rattle.formats.specs.Faults.{status_of};
-ghost use Rattle.formats.specs.declared.Port.{Port};
 ghost use Rattle.st_base.specs.Causes.{Rose};
+ghost use Rattle.st_base.specs.Frames.{OnlyInput};
 ghost use Rattle.stuff.specs.Ends.{AreKept, IsRefusal, ReadsInput, ReadsField};
 ghost use Rattle.stuff.specs.Refusals.{status_of_volume};
 
@@ -44,9 +44,7 @@ pub fn read_input<D: Desk>(alloc: Global, desk: &mut D, step: u32) -> Result<Vol
     ensures fault { IsErrOf result Status.ReadFault → Rose (D.input desk.old).faults (D.input desk.new).faults }
     ensures none { result ≢ Err Status.ReadFault → (D.input desk.new).faults ≡ (D.input desk.old).faults }
     ensures is_open { (D.input desk.new).is_open ≡ true }
-    ensures ports { (p : Port) → D.ports desk.new p ≡ D.ports desk.old p }
-    ensures tried { D.tried desk.new ≡ D.tried desk.old }
-    ensures held { (n : List ℕ) → D.held desk.new n ≡ D.held desk.old n }
+    ensures apart { OnlyInput D.Desk desk.old desk.new }
 {
     let head = match read_head(alloc, desk) {
         Ok(head) => head,
@@ -75,14 +73,9 @@ pub fn read_field<D: Desk>(
     ensures fault { IsErrOf result Status.ReadFault → Rose (D.input desk.old).faults (D.input desk.new).faults }
     ensures none { result ≢ Err Status.ReadFault → (D.input desk.new).faults ≡ (D.input desk.old).faults }
     ensures is_open { (D.input desk.new).is_open ≡ true }
-    ensures ports { (p : Port) → D.ports desk.new p ≡ D.ports desk.old p }
-    ensures tried { D.tried desk.new ≡ D.tried desk.old }
-    ensures held { (n : List ℕ) → D.held desk.new n ≡ D.held desk.old n }
+    ensures apart { OnlyInput D.Desk desk.old desk.new }
 {
-    let volume = match read_input(alloc, desk, step) {
-        Ok(volume) => volume,
-        Err(status) => return Err(status),
-    };
+    let volume = read_input(alloc, desk, step)?;
     match Field::new(alloc, &volume, level, below) {
         Ok(field) => Ok(field),
         Err(NoMemory) => Err(Status::NoMemory),

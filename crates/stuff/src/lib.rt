@@ -1,4 +1,9 @@
 //! The top call: carries out a command line over a desk.
+//!
+//! ```rust
+//! let outcome = stuff(&rt, alloc, &words, &mut desk, &OpenGate);
+//! let code = outcome.status.code();
+//! ```
 #![tactic(auto)]
 
 mod demo;

@@ -52,6 +52,7 @@ fn write_survey<D: Desk, G: Gate + Sync, R: Threads + Sync>(
     requires some_workers { 1 ≤ workers }
     requires most_workers { workers ≤ 64 }
     ensures kind { IsAtOutput result }
+    ensures report_open { (D.ports desk.new Report).is_open ≡ true }
     ensures ends { (name : Port → List ℕ) → name Node ≡ node_name.now → name Ele ≡ ele_name.now → PortsEnd D.ports result true name (λ p text. text ≡ mesh_text step (mesh survey.now.subject.field survey.now.subject.shares) p) desk.old desk.new }
     ensures tries { GrowsAlong (node_name.now ∷ ele_name.now ∷ []) (D.tried desk.old) (D.tried desk.new) }
     ensures all_tried { result ≡ Status.Done → D.tried desk.new ≡ with_names (D.tried desk.old) (node_name.now ∷ ele_name.now ∷ []) }
@@ -91,6 +92,7 @@ pub fn mesh_field<D: Desk, G: Gate + Sync, R: Threads + Sync>(
     requires plan { IsPlan plan }
     ensures trace { TracesMesh result field.now shares plan.slab trace.new }
     ensures kind { IsAtOutput result }
+    ensures report_open { (D.ports desk.new Report).is_open ≡ true }
     ensures ends { PortsEnd D.ports result true (mesh_name output.now) (λ p text. text ≡ mesh_text step (mesh field.now shares) p) desk.old desk.new }
     ensures tries { GrowsAlong (mesh_name output.now Node ∷ mesh_name output.now Ele ∷ []) (D.tried desk.old) (D.tried desk.new) }
     ensures all_tried { result ≡ Status.Done → D.tried desk.new ≡ with_names (D.tried desk.old) (mesh_name output.now Node ∷ mesh_name output.now Ele ∷ []) }

@@ -1,4 +1,4 @@
-ghost use Rattle.std.specs.Prelude.{◌≡◌, ◌≢◌, ◌<◌, ◌≤◌, ℕ, List, false, true, length, IfSome, None};
+ghost use Rattle.std.specs.Prelude.{◌≡◌, ◌≢◌, ◌⊎◌, ◌<◌, ◌≤◌, ℕ, List, false, true, length, IfSome, None};
 ghost use Rattle.command_line.specs.Grammar.{Command as Meaning, MakeDemo, Reads, IsPlan};
 ghost use Rattle.command_line.specs.declared.Plan.{Plan};
 ghost use Rattle.command_words.specs.declared.Source.TheVariants.{File};
@@ -6,12 +6,12 @@ ghost use Rattle.command_words.specs.Commands.{meaning_of, mesh_of, plan_with, s
 ghost use Rattle.formats.specs.declared.Port.{Port};
 ghost use Rattle.formats.specs.declared.Port.TheVariants.{Node, Ele, Report, Trouble};
 ghost use Rattle.st_base.specs.Desk.{IsStart};
-ghost use Rattle.stuff.specs.Inputs.{settings_of, told_input, IsInput};
+ghost use Rattle.stuff.specs.Inputs.{Settings, settings_of, told_input, IsInput};
 ghost use Rattle.stuff.specs.Outputs.{has_files, file_name, output_names, all_names, IsTextOf};
 ghost use Rattle.stuff.specs.Traces.{IsFieldOf, TraceEnds};
-ghost use Rattle.stuff.specs.Ports.{PortsEnd};
+ghost use Rattle.stuff.specs.Ports.{KeepsPorts, PortsEnd};
 ghost use Rattle.stuff.specs.Writing.{GrowsAlong, with_names};
-ghost use Rattle.stuff.specs.Ends.{DemoEnds, InputEnds, WordsEnd, HoldsInput};
+ghost use Rattle.stuff.specs.Ends.{Accepts, DemoEnds, InputEnds, WordsEnd, HoldsInput};
 
 use crate::demo::make_demo;
 use crate::input::read_field;
@@ -49,6 +49,8 @@ fn work<D: Desk, G: Gate + Sync, R: Threads + Sync>(
     ensures ports { PortsEnd D.ports result (has_files (meaning_of command.now)) (file_name words.now (meaning_of command.now)) (IsTextOf (D.input desk.old).left (meaning_of command.now)) desk.old desk.new }
     ensures trace { TraceEnds result (meaning_of command.now) (IsFieldOf (D.input desk.old).left (meaning_of command.now)) trace.new }
     ensures words { (place : ℕ) → result ≢ Status.BadWords place }
+    ensures accepted { (text : List ℕ) (s : Settings) → HoldsInput (D.input desk.old).left (settings_of (meaning_of command.now)) text s → KeepsPorts (D.ports desk.old) (D.ports desk.new) ⊎ Accepts s.step text (D.input desk.new).left }
+    ensures report_open { (D.ports desk.new Report).is_open ≡ true }
     ensures tries { GrowsAlong (output_names words.now (meaning_of command.now)) (D.tried desk.old) (D.tried desk.new) }
     ensures all_tried { result ≡ Status.Done → D.tried desk.new ≡ with_names (D.tried desk.old) (output_names words.now (meaning_of command.now)) }
     ensures trouble { D.ports desk.new Trouble ≡ D.ports desk.old Trouble }
@@ -96,6 +98,8 @@ pub fn run<D: Desk, G: Gate + Sync, R: Threads + Sync>(
     ensures words { WordsEnd result words.now }
     ensures input { InputEnds result (IsInput words.now (D.held desk.old)) (D.input desk.new) }
     ensures ports { (c : Meaning) → Reads words.now c → PortsEnd D.ports result (has_files c) (file_name words.now c) (IsTextOf (told_input (D.held desk.old) words.now c) c) desk.old desk.new }
+    ensures accepted { (text : List ℕ) (s : Settings) → IsInput words.now (D.held desk.old) text s → KeepsPorts (D.ports desk.old) (D.ports desk.new) ⊎ Accepts s.step text (D.input desk.new).left }
+    ensures report_open { (D.ports desk.new Report).is_open ≡ true }
     ensures unread { (place : ℕ) → result ≡ Status.BadWords place → (p : Port) → D.ports desk.new p ≡ D.ports desk.old p }
     ensures trouble { D.ports desk.new Trouble ≡ D.ports desk.old Trouble }
     ensures tried { (c : Meaning) → Reads words.now c → GrowsAlong (all_names words.now c) (D.tried desk.old) (D.tried desk.new) }

@@ -1,6 +1,7 @@
 ghost use Rattle.std.specs.Prelude.{◌≡◌, ◌≢◌, ◌++◌, ℕ, List, true, false, IfOk, OnOk, decimal};
 ghost use Rattle.formats.specs.declared.Port.{Port};
 ghost use Rattle.formats.specs.declared.Port.TheVariants.{Report, Trouble};
+ghost use Rattle.st_base.specs.Frames.{OnlyPort};
 ghost use Rattle.stuff.specs.Ports.{IsAtOutput, PortsEnd};
 ghost use Rattle.stuff.specs.Outputs.{signs_text};
 ghost use Rattle.formats.specs.Texts.{sign_line};
@@ -50,11 +51,9 @@ pub fn write_signs<D: Desk>(alloc: Global, desk: &mut D, field: &Field) -> Statu
     requires report { (D.ports desk.old Report).is_open ≡ true }
     requires faults { (p : Port) → p ≢ Trouble → (D.ports desk.old p).faults ≡ 0 }
     ensures kind { IsAtOutput result }
+    ensures report_open { (D.ports desk.new Report).is_open ≡ true }
     ensures ends { (name : Port → List ℕ) → PortsEnd D.ports result false name (λ p text. text ≡ signs_text field.now p) desk.old desk.new }
-    ensures tried { D.tried desk.new ≡ D.tried desk.old }
-    ensures input { D.input desk.new ≡ D.input desk.old }
-    ensures others { (p : Port) → p ≢ Report → D.ports desk.new p ≡ D.ports desk.old p }
-    ensures held { (n : List ℕ) → D.held desk.new n ≡ D.held desk.old n }
+    ensures apart { OnlyPort D.Desk Report desk.old desk.new }
 {
     match sign_text(alloc, field) {
         Ok(text) => write_report(desk, &text),

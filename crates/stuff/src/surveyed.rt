@@ -43,13 +43,9 @@ pub fn survey_of<'f, G: Gate + Sync, R: Threads + Sync>(
 {
     // There are so few vertices that each ledger has room for them.
     let _ = vertex_count(field.dims());
-    let Ok(ledgers) = tallies(alloc, plan.workers) else {
-        return Err(NoMemory);
-    };
-    match survey(rt, alloc, field, shares, plan, gate, ledgers) {
-        Ok((survey, _)) => Ok(survey),
-        Err(fault) => Err(fault),
-    }
+    let ledgers = tallies(alloc, plan.workers)?;
+    let (survey, _) = survey(rt, alloc, field, shares, plan, gate, ledgers)?;
+    Ok(survey)
 }
 
 /// That from which the lines of a survey's mesh are made.

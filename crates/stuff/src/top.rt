@@ -1,18 +1,18 @@
-ghost use Rattle.std.specs.Prelude.{◌≡◌, ◌≢◌, ◌⊎◌, ◌↔◌, ◌<◌, ℕ, List, false, None};
+ghost use Rattle.std.specs.Prelude.{◌≡◌, ◌≢◌, ◌⊎◌, ◌↔◌, ◌<◌, ℕ, List, true, false, None};
 ghost use Rattle.std.specs.Io.KnownBytes.{Appends};
 ghost use Rattle.definitions.specs.Values.{Field};
 ghost use Rattle.formats.specs.Faults.{trouble_text};
 ghost use Rattle.command_line.specs.Grammar.{Command as Meaning, MakeDemo, Reads, IsBadPlace};
 ghost use Rattle.command_line.specs.declared.Plan.{Plan};
 ghost use Rattle.formats.specs.declared.Port.{Port};
-ghost use Rattle.formats.specs.declared.Port.TheVariants.{Trouble};
+ghost use Rattle.formats.specs.declared.Port.TheVariants.{Report, Trouble};
 ghost use Rattle.st_base.specs.Desk.{IsStart, AppendsPart};
 ghost use Rattle.stuff.specs.Inputs.{Settings, IsInput, IsLeft, BreaksOff, outcome_of};
 ghost use Rattle.stuff.specs.Outputs.{has_files, file_name, all_names, IsBoundedFor, IsSoundFor, IsTextFor};
 ghost use Rattle.stuff.specs.Traces.{IsFieldFor, TraceEnds};
 ghost use Rattle.stuff.specs.Ports.{HasNoFault, HasWritten, KeepsPorts, PortsEnd};
 ghost use Rattle.stuff.specs.Writing.{GrowsAlong, with_names};
-ghost use Rattle.stuff.specs.Ends.{IsOutcome, LeavesPorts};
+ghost use Rattle.stuff.specs.Ends.{Accepts, IsOutcome, LeavesPorts};
 
 use crate::Outcome;
 use crate::run::run;
@@ -58,14 +58,19 @@ pub fn stuff<R: Threads + Sync, D: Desk + Send, G: Gate + Sync>(
 
     // What is read of a told input.
     ensures read { (text : List ℕ) (s : Settings) → IsInput words.now (D.held desk.old) text s → IsOutcome result.status → IsLeft text (outcome_of s.step text).taken (D.input desk.new).left }
-    ensures read_whole { (port : Port) → result.status ≡ Status.WriteFault port → (text : List ℕ) (s : Settings) → IsInput words.now (D.held desk.old) text s → IsLeft text (outcome_of s.step text).taken (D.input desk.new).left }
+    ensures read_whole { (port : Port) → result.status ≡ Status.WriteFault port → (text : List ℕ) (s : Settings) → IsInput words.now (D.held desk.old) text s → Accepts s.step text (D.input desk.new).left }
     ensures breaks_off { result.status ≡ Status.ReadFault → (text : List ℕ) (s : Settings) → IsInput words.now (D.held desk.old) text s →
         ((D.input desk.new).is_open ≡ false) ⊎ BreaksOff s.step text (D.input desk.new).left }
+
+    // No output is used before a told input was read whole and is one that is not refused.
+    ensures accepted { (text : List ℕ) (s : Settings) → IsInput words.now (D.held desk.old) text s → KeepsPorts (D.ports desk.old) (D.ports desk.new) ⊎ Accepts s.step text (D.input desk.new).left }
 
     // What stands on the ports.
     ensures written { result.status ≡ Status.Done → (c : Meaning) → Reads words.now c → HasWritten D.ports (has_files c) (file_name words.now c) (IsTextFor (D.held desk.old) words.now c) desk.old desk.new }
     ensures ports { (c : Meaning) → Reads words.now c → PortsEnd D.ports result.status (has_files c) (file_name words.now c) (IsTextFor (D.held desk.old) words.now c) desk.old desk.new }
     ensures ports_left { LeavesPorts result.status → KeepsPorts (D.ports desk.old) (D.ports desk.new) }
+    ensures report_open { (D.ports desk.new Report).is_open ≡ true }
+    ensures trouble_open { (D.ports desk.new Trouble).is_open ≡ true }
     ensures trouble_part { AppendsPart (D.ports desk.old Trouble).text (D.ports desk.new Trouble).text (trouble_text result.status) }
     ensures trouble_whole { (D.ports desk.new Trouble).faults ≡ 0 → Appends (D.ports desk.old Trouble).text (D.ports desk.new Trouble).text (trouble_text result.status) }
     ensures quiet { result.status ≡ Status.Done → D.ports desk.new Trouble ≡ D.ports desk.old Trouble }

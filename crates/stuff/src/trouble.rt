@@ -5,6 +5,7 @@ ghost use Rattle.formats.specs.declared.Port.{Port};
 ghost use Rattle.formats.specs.declared.Port.TheVariants.{Trouble};
 ghost use Rattle.formats.specs.declared.Status.TheVariants.{Done, Truncated};
 ghost use Rattle.st_base.specs.Desk.{AppendsPart};
+ghost use Rattle.st_base.specs.Frames.{OnlyPort};
 ghost use Rattle.std.specs.Io.KnownBytes.{Appends};
 
 use arrayvec::ArrayVec;
@@ -158,14 +159,12 @@ fn fault_line(status: Status) -> Line
 pub fn tell<D: Desk>(desk: &mut D, status: Status)
     requires is_open { (D.ports desk.old Trouble).is_open ≡ true }
     requires no_faults { (D.ports desk.old Trouble).faults ≡ 0 }
+    ensures is_open { (D.ports desk.new Trouble).is_open ≡ true }
     ensures part { AppendsPart (D.ports desk.old Trouble).text (D.ports desk.new Trouble).text (trouble_text status) }
     ensures whole { (D.ports desk.new Trouble).faults ≡ 0 →
         Appends (D.ports desk.old Trouble).text (D.ports desk.new Trouble).text (trouble_text status) }
-    ensures tried { D.tried desk.new ≡ D.tried desk.old }
-    ensures input { D.input desk.new ≡ D.input desk.old }
-    ensures others { (p : Port) → p ≢ Trouble → D.ports desk.new p ≡ D.ports desk.old p }
+    ensures apart { OnlyPort D.Desk Trouble desk.old desk.new }
     ensures quiet { status ≡ Status.Done → D.ports desk.new Trouble ≡ D.ports desk.old Trouble }
-    ensures held { (n : List ℕ) → D.held desk.new n ≡ D.held desk.old n }
 {
     match status {
         Status::Done => {}

@@ -2,9 +2,15 @@
 #![tactic(auto)]
 
 #[cfg(test)]
+mod faults;
+#[cfg(test)]
+mod files;
+#[cfg(test)]
 mod lines;
 #[cfg(test)]
 mod meshes;
+#[cfg(test)]
+mod order;
 #[cfg(test)]
 mod ports;
 #[cfg(test)]

@@ -20,6 +20,10 @@ count a level=0.5 | MET_SHORT 2 1 1 | 01 00 e0 b1 | 0 | plus 1 zero 0 minus 47
 count a level=0.5 | MET_UCHAR 2 2 2 | 01*8 | 0 | plus 9 zero 6 minus 76
 count a level=0.5 | MET_CHAR 2 2 2 | 02*4 fe*4 | 0 | plus 4 zero 1 minus 86
 count a level=0.5 | MET_UCHAR 126 126 254 | 00*4032504 | 0 | plus 0 zero 0 minus 8307199
+count a level=0.5 | MET_UCHAR 127 1 1 | 01*127 | 0 | plus 127 zero 0 minus 1546
+count a level=0.5 | MET_UCHAR 8192 1 1 | 01*8192 | 0 | plus 8192 zero 0 minus 98326
+count a level=0.5 | MET_UCHAR 1 8192 1 | 01*8192 | 0 | plus 8192 zero 0 minus 98326
+count a level=0.5 | MET_UCHAR 1 1 8192 | 01*8192 | 0 | plus 8192 zero 0 minus 98326
 count a level=-300 | MET_SHORT 64 64 64 | box | 0 | plus 62559 zero 0 minus 499562
 count a level=-300 | NDims = 3;DimSize = 64 64 64;ElementType = MET_SHORT;ElementByteOrderMSB = True;ElementDataFile = LOCAL; | turned box | 0 | plus 62559 zero 0 minus 499562
 count a level=0.5 | Comment = x^;ObjectType=Image^;NDims=3^;DimSize=1 1 1^;^;ElementType=MET_UCHAR^;ElementDataFile=LOCAL^; | 01 | 0 | plus 1 zero 0 minus 34
@@ -56,18 +60,23 @@ count a level=0.5 | NDims = 0;ElementDataFile = LOCAL; | | 3 | stuff: bad header
 count a level=0.5 | NDims = 3;ElementNumberOfChannels = x;ElementDataFile = LOCAL; | | 3 | stuff: bad header value: ElementNumberOfChannels
 count a level=0.5 | NDims = 3;DimSize = 0 1 1;ElementDataFile = LOCAL; | | 3 | stuff: bad header value: DimSize
 count a level=0.5 | NDims = 3;DimSize = 1 1;ElementDataFile = LOCAL; | | 3 | stuff: bad header value: DimSize
+count a level=0.5 | NDims = 3;DimSize = 1 1 1 1;ElementDataFile = LOCAL; | | 3 | stuff: bad header value: DimSize
 count a level=0.5 | NDims = 3;DimSize = 1000000000 1 1;ElementDataFile = LOCAL; | | 3 | stuff: bad header value: DimSize
 count a level=0.5 | NDims = 3;DimSize = 1 1 1;ElementType =;ElementDataFile = LOCAL; | | 3 | stuff: bad header value: ElementType
+count a level=0.5 | NDims = 3;CompressedData = True;DimSize = 1 1 1;ElementType =;ElementDataFile = LOCAL; | | 3 | stuff: bad header value: ElementType
 count a level=0.5 | NDims = 3;DimSize = 1 1 1;ElementType = MET_UCHAR;ElementDataFile =; | | 3 | stuff: bad header value: ElementDataFile
 count a level=0.5 | ObjectType = Tube;NDims = 2;DimSize = 1 1;ElementType = MET_UCHAR;ElementDataFile = LOCAL; | | 4 | stuff: unsupported: ObjectType
 count a level=0.5 | NDims = 2;DimSize = 1 1;ElementType = MET_UCHAR;ElementDataFile = LOCAL; | | 4 | stuff: unsupported: NDims
 count a level=0.5 | NDims = 3;BinaryData = False;DimSize = 1 1 1;ElementType = MET_UCHAR;ElementDataFile = LOCAL; | | 4 | stuff: unsupported: BinaryData
+count a level=0.5 | NDims = 3;BinaryData = False;ElementNumberOfChannels = 3;DimSize = 1 1 1;ElementType = MET_UCHAR;ElementDataFile = LOCAL; | | 4 | stuff: unsupported: BinaryData
 count a level=0.5 | NDims = 3;CompressedData = True;DimSize = 1 1 1;ElementType = MET_UCHAR;ElementDataFile = LOCAL; | | 4 | stuff: unsupported: CompressedData
 count a level=0.5 | NDims = 3;ElementNumberOfChannels = 3;DimSize = 1 1 1;ElementType = MET_UCHAR;ElementDataFile = LOCAL; | | 4 | stuff: unsupported: ElementNumberOfChannels
 count a level=0.5 | NDims = 3;DimSize = 1 1 1;ElementType = MET_FLOAT;ElementDataFile = LOCAL; | | 4 | stuff: unsupported: ElementType
 count a level=0.5 | NDims = 3;DimSize = 1 1 1;ElementType = MET_UCHAR;ElementDataFile = one.raw; | | 4 | stuff: unsupported: ElementDataFile
 count a level=0.5 | MET_UCHAR 126 126 255 | | 5 | stuff: too large: 4210688
 count a level=0.5 | MET_INT 8193 1 1 | | 5 | stuff: too large: 73755
+count a level=0.5 | MET_UCHAR 999999999 999999999 999999999 | | 5 | stuff: too large: 1000000003000000003000000001
+count a step=64 level=0.5 | MET_UINT 8192 8192 8192 | | 6 | stuff: truncated: 0 of 2199023255552 bytes
 count a level=0.5 | plain | | 6 | stuff: truncated: 0 of 1 bytes
 mesh a out level=0.5 | MET_UCHAR 2 1 1 | 01 | 6 | stuff: truncated: 1 of 2 bytes
 count a level=0.5 | MET_SHORT 64 64 64 | 01*524287 | 6 | stuff: truncated: 524287 of 524288 bytes

@@ -32,6 +32,7 @@ mesh a out level=0.5 | MET_CHAR 2 2 2 | 02*4 fe*4 | .. 0.3750000000000 0.3750000
 mesh a out level=0.5 workers=1 | MET_CHAR 2 2 2 | 02*4 fe*4 | ! 0.5000000000000 0.5000000000000 0.5000000000000; | same | same
 mesh a out level=-300 | MET_SHORT 64 64 64 | box | 75221 3 0 0;.. | 406248 4 0;.. | nodes 75221;tetrahedra 406248;least +..
 mesh a out level=-300 workers=3 | NDims = 3;DimSize = 64 64 64;ElementType = MET_SHORT;ElementByteOrderMSB = True;ElementDataFile = LOCAL; | turned box | same | same | same
+mesh a out level=0.5 | MET_UCHAR 8192 1 1 | 01*8192 | .. | .. | nodes ..
 demo size=1 seed=7 | | | | | plus 1 zero 0 minus 34;nodes 15;tetrahedra 24;least +1/4 tetrahedron 0 edge 1 7;greatest 0/1 tetrahedron 0 edge 0 7;
 demo seed=0 size=1 workers=2 | | | | | same
 demo size=2 seed=7 | | | | | plus 0 zero 0 minus 91;nodes 0;tetrahedra 0;no tetrahedra;
@@ -39,6 +40,7 @@ demo slab=1 seed=7 size=5 workers=8 | | | | | plus 31 zero 0 minus 528;nodes 69;
 demo size=64 seed=7 | | | | | plus ..
 demo size=64 seed=7 | | | | | same
 demo size=64 seed=7 workers=8 slab=1 | | | | | same
+demo size=128 seed=7 | | | | | plus ..
 ";
 
 // Carries out a row, and compares; the desk is that of the row before.

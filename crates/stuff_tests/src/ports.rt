@@ -11,8 +11,8 @@ use std::process::Abort;
 use std::thread::Threads;
 use stuff::stuff;
 
-// The nodes of one sample above the level.
-const NODES: &[u8] = b"15 3 0 0
+/// The nodes of one sample above the level.
+pub const NODES: &[u8] = b"15 3 0 0
 0 0.0000000000000 0.0000000000000 -0.5000000000000
 1 -0.2857666015625 -0.2857666015625 -0.2857666015625
 2 0.2857666015625 -0.2857666015625 -0.2857666015625
@@ -30,8 +30,8 @@ const NODES: &[u8] = b"15 3 0 0
 14 0.0000000000000 0.0000000000000 0.5000000000000
 ";
 
-// Its tetrahedra.
-const TETRAHEDRA: &[u8] = b"24 4 0
+/// Its tetrahedra.
+pub const TETRAHEDRA: &[u8] = b"24 4 0
 0 0 1 2 7
 1 0 1 7 3
 2 0 2 4 7

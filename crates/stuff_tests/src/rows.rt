@@ -13,7 +13,8 @@ use desk_mem::MemDesk;
 use st_base::{NoMemory, Port, Words};
 use std::alloc::{AllocError, Global};
 
-const PLAIN: &[u8] =
+/// The head of one sample.
+pub const PLAIN: &[u8] =
     b"ObjectType = Image\nNDims = 3\nBinaryData = True\nBinaryDataByteOrderMSB = False\nCompressedData = False\nTransformMatrix = 1 0 0 0 1 0 0 0 1\nOffset = 0 0 0\nCenterOfRotation = 0 0 0\nAnatomicalOrientation = RAI\nElementSpacing = 1 1 1\nDimSize = 1 1 1\nElementType = MET_UCHAR\nElementDataFile = LOCAL\n";
 
 /// What stands before the first mark, and what stands behind it.
@@ -139,14 +140,20 @@ fn add_samples(input: &mut Vec<u8>, field: &[u8]) -> Result<(), AllocError> {
     Ok(())
 }
 
-/// A desk that holds the input of a head and samples under the name `a`.
-pub fn desk_of(alloc: Global, head: &[u8], samples: &[u8]) -> Result<MemDesk, NoMemory>
-    ensures { IfOk result (λ desk. IsStart (mem_input desk) (mem_ports desk) (mem_tried desk)) }
-{
+/// The input of a head and samples.
+pub fn input_of(alloc: Global, head: &[u8], samples: &[u8]) -> Result<Vec<u8>, NoMemory> {
     let mut input = Vec::new(alloc);
     if add_head(&mut input, alloc, head).is_err() || add_samples(&mut input, samples).is_err() {
         return Err(NoMemory);
     }
+    Ok(input)
+}
+
+/// A desk that holds it under the name `a`.
+pub fn desk_of(alloc: Global, head: &[u8], samples: &[u8]) -> Result<MemDesk, NoMemory>
+    ensures { IfOk result (λ desk. IsStart (mem_input desk) (mem_ports desk) (mem_tried desk)) }
+{
+    let input = input_of(alloc, head, samples)?;
     let mut desk = MemDesk::new(alloc);
     desk.put_input(b"a", &input)?;
     Ok(desk)

@@ -10,9 +10,10 @@ use stuff::stuff;
 
 const TURNS: u64 = 1_000_000_000;
 
-// Holds slab 0 until slab 1 was passed, for at most so many turns.
+// Holds slab 0 each time until slab 1 was passed as often, for at most so many turns.
 #[derive(Drop)]
 struct Holding {
+    held: AtomicU64,
     passed: AtomicU64,
     spent: AtomicU64,
 }
@@ -20,14 +21,16 @@ struct Holding {
 impl Holding {
     fn new() -> Holding {
         Holding {
+            held: AtomicU64::new(0),
             passed: AtomicU64::new(0),
             spent: AtomicU64::new(0),
         }
     }
 
     fn wait(&self) {
+        let before = self.held.fetch_add(1, Ordering::SeqCst);
         for _ in 0..TURNS {
-            if self.passed.load(Ordering::SeqCst) == 1 {
+            if self.passed.load(Ordering::SeqCst) > before {
                 return;
             }
         }
@@ -39,12 +42,15 @@ impl Gate for Holding {
     fn pass(&self, _worker: u32, slab: u32) {
         match slab {
             0 => self.wait(),
-            1 => self.passed.store(1, Ordering::SeqCst),
+            1 => {
+                self.passed.fetch_add(1, Ordering::SeqCst);
+            }
             _ => {}
         }
     }
 }
 
+// A slab is surveyed, and then its lines of nodes and of tetrahedra are made.
 #[test]
 fn slabs_are_made_at_the_same_time(rt: HostRuntime) {
     let alloc = rt.alloc();
@@ -53,7 +59,7 @@ fn slabs_are_made_at_the_same_time(rt: HostRuntime) {
     let gate = Holding::new();
     let outcome = stuff(&rt, alloc, &words, &mut desk, &gate);
     assert!(rt; outcome.status == Status::Done);
-    assert_eq!(rt; gate.passed.load(Ordering::SeqCst), 1);
+    assert_eq!(rt; gate.passed.load(Ordering::SeqCst), 3);
     assert_eq!(rt; gate.spent.load(Ordering::SeqCst), 0);
 }
 

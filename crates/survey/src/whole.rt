@@ -100,6 +100,8 @@ impl Trace {
 
 /// The states of all vertices of a field, how many nodes and tetrahedra each layer has, and the trace of how
 /// they were made. Threads share it by reference.
+///
+/// The counts are those of the states that the trace tells of, and the field is the one that it is of.
 #[derive(Drop)]
 pub struct Survey<'f> {
     field: &'f Field,

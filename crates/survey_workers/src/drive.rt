@@ -6,13 +6,13 @@ ghost use Rattle.slab_survey.specs.Layers.{vertices_in};
 ghost use Rattle.survey_workers.specs.Going.{shares_of, IsEnded, IsGoing, IsReady};
 
 use bcc_lattice::Layout;
+use crews::run_each;
 use layer_cells::Cells;
 use samples::Field;
 use slab_claims::{Claim, Claims};
 use slab_survey::{Worker, survey_slab};
 use snap_rule::Shares;
 use st_base::{Gate, Ledger};
-use std::thread;
 use std::thread::Threads;
 
 /// Draws slabs and surveys each, until there are no more.
@@ -43,7 +43,7 @@ fn run_worker<G: Gate, L: Ledger>(
 }
 
 /// Runs the workers, each in a thread of its own where one can be made.
-pub fn run_all<G: Gate + Sync, L: Ledger + Send, R: Threads + Sync>(
+fn run_all<G: Gate + Sync, L: Ledger + Send, R: Threads + Sync>(
     rt: &R,
     field: &Field,
     shares: Shares,
@@ -51,23 +51,22 @@ pub fn run_all<G: Gate + Sync, L: Ledger + Send, R: Threads + Sync>(
     claims: &Claims,
     cells: &Cells,
     gate: &G,
-    workers: &mut [Worker<L>],
-)
-    requires some { 0 < length workers.old }
+    workers: Vec<Worker<L>>,
+) -> Vec<Worker<L>>
+    requires some { 0 < length workers.items }
     requires layout { IsLayout layout.now.dims layout.now.slab }
     requires sizes { layout.now.dims ≡ field.now.dims }
     requires cells { cells.now.subject ≡ record { field = field.now; shares = shares } }
     requires slabs { claims.now.slabs ≡ slabs field.now.dims layout.now.slab }
-    requires ready { All (λ w. IsReady field.now.dims claims.now cells.now w × (L.count w.ledger + length (vertices field.now.dims) < 2 ^ 64)) workers.old }
-    ensures { (i : ℕ) (d : _) → i < length workers.old → IsGoing L.count field.now.dims layout.now.slab claims.now cells.now (slice_index_or workers.old i d) (slice_index_or workers.new i d) (slice_index_or workers.new i d).claims.drawn × ((slice_index_or workers.new i d).claims.done ≡ true) }
+    requires ready { All (λ w. IsReady field.now.dims claims.now cells.now w × (L.count w.ledger + length (vertices field.now.dims) < 2 ^ 64)) workers.items }
+    ensures len { length result.items ≡ length workers.items }
+    ensures went { (i : ℕ) (d : _) → i < length workers.items → IsGoing L.count field.now.dims layout.now.slab claims.now cells.now (slice_index_or workers.items i d) (slice_index_or result.items i d) (slice_index_or result.items i d).claims.drawn × ((slice_index_or result.items i d).claims.done ≡ true) }
 {
-    let count = workers.len();
-    thread::for_each_mut(
+    run_each(
         rt,
         workers,
-        count,
         &|_, worker| run_worker(field, shares, layout, claims, cells, gate, worker),
-    );
+    )
 }
 
 /// Runs the workers to their end.
@@ -79,7 +78,7 @@ pub fn run_to_end<G: Gate + Sync, L: Ledger + Send, R: Threads + Sync>(
     claims: &Claims,
     cells: &Cells,
     gate: &G,
-    mut workers: Vec<Worker<L>>,
+    workers: Vec<Worker<L>>,
 ) -> Vec<Worker<L>>
     requires some { 0 < length workers.items }
     requires layout { IsLayout layout.now.dims layout.now.slab }
@@ -92,15 +91,5 @@ pub fn run_to_end<G: Gate + Sync, L: Ledger + Send, R: Threads + Sync>(
     ensures len { length result.items ≡ length workers.items }
     ensures ledgers { (i : ℕ) (d : _) → i < length workers.items → L.count (slice_index_or result.items i d).ledger ≡ L.count (slice_index_or workers.items i d).ledger + vertices_in field.now.dims (slice_index_or result.items i d).cells.made }
 {
-    run_all(
-        rt,
-        field,
-        shares,
-        layout,
-        claims,
-        cells,
-        gate,
-        workers.as_mut_slice(),
-    );
-    workers
+    run_all(rt, field, shares, layout, claims, cells, gate, workers)
 }

@@ -5,14 +5,14 @@ use Rattle.definitions.specs.declared.Place.{Place}
 use Rattle.definitions.specs.Soundness.{same_nodes, triangles_of, all_triangles, tets_at_triangle}
 use Rattle.lattice_laws.specs.Ascending.{Has}
 use Rattle.lattice_laws.proofs.Booleans.{and_true, or_left}
-use Rattle.lattice_laws.proofs.Members.{from_flat_map, place_of}
+use Rattle.lattice_laws.proofs.Members.{from_flat_map, place_of, all_from_members}
 use Rattle.lattice_laws.proofs.Sublists.{has_at}
 use Rattle.triangle_laws.specs.Boundary.{turned, IsPaired}
 use Rattle.triangle_laws.proofs.Closing.{paired_boundaries_close}
 use Rattle.triangle_laws.specs.Laws.{AreConforming, TrianglesAreShared, PartnersAreTurned, TrianglesArePaired, BoundariesClose}
 use Rattle.triangle_laws.proofs.Orders.{own_order, AreDifferent, different}
 use Rattle.triangle_laws.proofs.SharedTriangles.{same_test}
-use Rattle.triangle_laws.proofs.Sums.{total-is, total-plus, total-every, bit, hits, hits_of_member, all_from_members}
+use Rattle.triangle_laws.proofs.Sums.{total-is, total-plus, total-every, bit, hits, hits_of_member}
 use Rattle.triangle_laws.proofs.DirectedTriangles.{IsFour, is_four, as_four, at_most_one_turned}
 use Rattle.triangle_laws.proofs.SameNodes.{same_or_turned}
 

@@ -112,11 +112,6 @@ module _ {X : Type 0} (p : X → Bool) where
       go true e k f = and_true (p x) _ e (f (omega arith))
       go false e k f = absurd (omega arith)
 
--- what holds of each member
-pub all_from_members : {X : Type 0} (P : X → Type 0) (xs : List X) → ((x : X) → Has x xs → P x) → AllByRecursion P xs
-all_from_members P [] h = tt
-all_from_members P (x ∷ xs) h = (h x (inl refl), all_from_members P xs (λ y m. h y (inr m)))
-
 module _ {X : Type 0} (f : X → ℕ) where
   nothing_else : (x : X) (xs : List X) → 0 < f x → AllByRecursion (λ y. 0 < f x → 0 < f y → ⊥) xs → total f xs ≡ 0
   nothing_else x [] lt h = refl

@@ -11,11 +11,11 @@ abbrev less : ℕ → ℕ → Expression
 less m n = plus (variable m) (negate (variable n))
 
 -- the volume of four of the points 0 to 4, whose coordinates are the variables 0 to 14
-abbrev volume_expression : ℕ → ℕ → ℕ → ℕ → Expression
+abbrev pub volume_expression : ℕ → ℕ → ℕ → ℕ → Expression
 volume_expression i j k l =
     det3_expression (less (3 * j) (3 * i)) (less (3 * j + 1) (3 * i + 1)) (less (3 * j + 2) (3 * i + 2)) (less (3 * k) (3 * i)) (less (3 * k + 1) (3 * i + 1)) (less (3 * k + 2) (3 * i + 2)) (less (3 * l) (3 * i)) (less (3 * l + 1) (3 * i + 1)) (less (3 * l + 2) (3 * i + 2))
 
-abbrev coordinates : Vector → Vector → Vector → Vector → Vector → List ℤ
+abbrev pub coordinates : Vector → Vector → Vector → Vector → Vector → List ℤ
 coordinates a b c d e = a.x ∷ a.y ∷ a.z ∷ b.x ∷ b.y ∷ b.z ∷ c.x ∷ c.y ∷ c.z ∷ d.x ∷ d.y ∷ d.z ∷ e.x ∷ e.y ∷ e.z ∷ []
 
 -- a turn of the first three nodes, or of the last three, keeps the volume

@@ -1,5 +1,5 @@
 -- Where the column of a vertex and that of the next one along x have one sign, the vertex and all its neighbours upwards have it.
-use Rattle.std.proofs.Common.{◌≡◌, ℕ, ◌+◌, ◌-◌, true, Some, None, Option, [], ◌∷◌, arith, sym, ap, subst, ◌∙◌}
+use Rattle.std.proofs.Common.{◌≡◌, ℕ, ◌+◌, ◌-◌, ◌*◌, true, Some, None, Option, [], ◌∷◌, arith, sym, ap, subst, ◌∙◌}
 use Rattle.std.specs.Prelude.{IfSome}
 use Rattle.std.specs.Option.{option_map}
 use Rattle.definitions.specs.declared.Dims.{Dims}
@@ -60,3 +60,7 @@ module _ (d : Dims) (t : Vertex → State) where
 -- what is known of a column, where the same is told of the same vertex
 pub still : (d : Dims) (t u : Vertex → State) (v w : Vertex) (o : Option Sign) → u ≡ t → w ≡ v → IfSome o (IsColumn d t v) → IfSome o (IsColumn d u w)
 still d t u v w o e f p = subst (λ (u : Vertex → State). IfSome o (IsColumn d u w)) (sym e) (subst (λ (w : Vertex). IfSome o (IsColumn d t w)) (sym f) p)
+
+-- the number along x of the next vertex of a row
+pub next_x : (i p : ℕ) → (i + 1) * 2 + p ≡ i * 2 + p + 2
+next_x i p = omega arith

@@ -43,9 +43,6 @@ all_below : every 8 (λ bs. below 8 (λ k. count_ones (bits bs % 2 ^ k) == trues
 unfolding ones
 all_below = refl
 
-all_small : every 8 (λ bs. nat_lt (bits bs) 256) ≡ true
-all_small = refl
-
 module _ (bs : List Bool) (len : length bs ≡ 8) where
   pub ones_of_bits : count_ones (bits bs) ≡ trues bs
   ones_of_bits = eqb-true (count_ones (bits bs)) (trues bs) (each_of 8 (λ bs. count_ones (bits bs) == trues bs) all_counted bs len)
@@ -56,12 +53,6 @@ module _ (bs : List Bool) (len : length bs ≡ 8) where
   -- how many are set below a bit
   pub ones_below : (k : ℕ) → k < 8 → count_ones (bits bs % 2 ^ k) ≡ trues (take k bs)
   ones_below k lt = eqb-true (count_ones (bits bs % 2 ^ k)) (trues (take k bs)) (below_at 8 (λ k. count_ones (bits bs % 2 ^ k) == trues (take k bs)) (each_of 8 (λ bs. below 8 (λ k. count_ones (bits bs % 2 ^ k) == trues (take k bs))) all_below bs len) k lt)
-
-  pub bits_small : bits bs < 256
-  bits_small = less (bits bs) (each_of 8 (λ bs. nat_lt (bits bs) 256) all_small bs len)
-    where
-      less : (n : ℕ) → nat_lt n 256 ≡ true → n < 256
-      less n e = grind (arith, nat_tests)
 
 all_masks : below 8 (λ k. nat_lt 0 (1 * 2 ^ k % 256) && nat_lt (1 * 2 ^ k % 256) 256) ≡ true
 all_masks = refl

@@ -1,5 +1,5 @@
 -- The vertices of a layer by their ids.
-use Rattle.std.proofs.Common.{◌≡◌, ℕ, ◌+◌, ◌-◌, ◌*◌, ◌%◌, ◌^◌, ◌<◌, ◌≤◌, length, map, arith, sym, ap, subst, ◌∙◌}
+use Rattle.std.proofs.Common.{◌≡◌, ℕ, ◌+◌, ◌-◌, ◌*◌, ◌%◌, ◌<◌, ◌≤◌, length, map, arith, sym, ap, subst, ◌∙◌}
 use Rattle.std.specs.List.{range_with_len}
 use Rattle.std.proofs.Math.Nat.{mul-le-mul_right}
 use Rattle.definitions.specs.declared.Dims.{Dims}
@@ -8,13 +8,12 @@ use Rattle.definitions.specs.Lattice.{IsDims, id, layer, layers, vertex, vertice
 use Rattle.definitions.specs.Layout.{layer_len, layer_start}
 use Rattle.lattice_counts.specs.Counts.{below_layer, row_len, vertex_in_layer}
 use Rattle.lattice_counts.proofs.Ranks.{layer_length, layer_listed, layer_within, start, vertex_at_place, vertex_of_row}
-use Rattle.lattice_counts.proofs.Sizes.{layer_small}
 use Rattle.lattice_laws.proofs.Vertices.{id-vertex_at}
 use Rattle.vertex_numbers.proofs.NodesTold.{map_ranges}
 
 -- the rows of a layer are the layer
-pub all_rows : (d : Dims) (h j : ℕ) → row_len d.ny h ≤ j → j ≤ row_len d.ny h → j * row_len d.nx h ≡ layer_len d h
-all_rows d h j past within = ap (λ n. n * row_len d.nx h) (both j (row_len d.ny h) past within) ∙ sym (layer_length d h)
+pub all_rows : (d : Dims) (h j n : ℕ) → n ≡ row_len d.ny h → n ≤ j → j ≤ n → j * row_len d.nx h ≡ layer_len d h
+all_rows d h j n count past within = ap (λ m. m * row_len d.nx h) (both j n past within ∙ count) ∙ sym (layer_length d h)
   where
     both : (a b : ℕ) → b ≤ a → a ≤ b → a ≡ b
     both a b p q = omega arith
@@ -69,12 +68,17 @@ module _ (d : Dims) (is : IsDims d) (h : ℕ) (lt : h < layers d) where
     pub row_id : id d (vertex h (j * 2 + h % 2) (i * 2 + h % 2)) ≡ layer_start d h + j * row_len d.nx h + i
     row_id = ap (id d) (sym of_row) ∙ id-vertex_at d (layer_start d h + j * row_len d.nx h + i) row_within
 
-  -- a row is within its layer, which is not large
-  pub rows_small : (j : ℕ) → j < row_len d.ny h → (j + 1) * row_len d.nx h < 2 ^ 25
-  rows_small j row =
-      let a : (j + 1) * row_len d.nx h ≤ row_len d.ny h * row_len d.nx h = mul-le-mul_right (row_len d.nx h) (let r : j + 1 ≤ row_len d.ny h = omega arith in r) in
-      let s = layer_small d (h % 2) is in
-      below ((j + 1) * row_len d.nx h) (row_len d.ny h * row_len d.nx h) a s
-    where
-      below : (a b : ℕ) → a ≤ b → b < 2 ^ 25 → a < 2 ^ 25
-      below a b p q = omega arith
+-- the first vertex of a layer
+pub first_of_layer : (d : Dims) (h : ℕ) → IsDims d → h < layers d → vertex h (h % 2) (h % 2) ≡ vertex_at d (layer_start d h)
+first_of_layer d h is lt =
+    (λ i. vertex h (none (h % 2) i) (none (h % 2) i)) ∙ sym (of_row d is h lt 0 0 (some d.ny h) (some d.nx h))
+    ∙ ap (vertex_at d) (plain (layer_start d h) (row_len d.nx h))
+  where
+    none : (n : ℕ) → n ≡ 0 * 2 + n
+    none n = omega arith
+
+    some : (n h : ℕ) → 0 < row_len n h
+    some n h = omega arith
+
+    plain : (s w : ℕ) → s + 0 * w + 0 ≡ s
+    plain s w = omega arith

@@ -1,17 +1,17 @@
 -- The ids and the nodes below a layer.
-use Rattle.std.proofs.Common.{◌≡◌, ℕ, ◌+◌, ◌-◌, ◌*◌, ◌/◌, ◌%◌, ◌<◌, ◌≤◌, List, length, take, arith, refl, sym, ap, subst, ◌∙◌}
-use Rattle.std.specs.Prelude.{filter, sum_by, IfOk, Result, Ok, Err}
+use Rattle.std.proofs.Common.{◌≡◌, ℕ, ◌+◌, ◌-◌, ◌*◌, ◌/◌, ◌%◌, ◌≤◌, List, length, take, arith, refl, sym, ap, subst, ◌∙◌}
+use Rattle.std.specs.Prelude.{filter, sum_by}
 use Rattle.std.specs.List.{range_with_len}
 use Rattle.std.proofs.lemmas.List.Sums.{sum-map}
 use Rattle.std.proofs.lemmas.List.FromFn.{length-map-range_with_len, take-map-range_with_len}
 use Rattle.definitions.specs.declared.Dims.{Dims}
 use Rattle.definitions.specs.declared.State.{State}
 use Rattle.definitions.specs.Lattice.{layers, vertices}
-use Rattle.definitions.specs.Layout.{layer_len, layer_start}
+use Rattle.definitions.specs.Layout.{layer_start}
 use Rattle.definitions.specs.Mesh.{all_pieces, layer_node_keys, node_keys, occurs}
 use Rattle.lattice_counts.specs.Counts.{below_layer, even_len, odd_len}
 use Rattle.lattice_counts.proofs.Ranks.{below_rises, start}
-use Rattle.node_laws.proofs.Layers.{counts_below, next_start}
+use Rattle.node_laws.proofs.Layers.{counts_below}
 use Rattle.vertex_numbers.specs.Counts.{count_of_layer, layer_counts}
 use Rattle.vertex_numbers.specs.Numbering.{nodes_before}
 use Rattle.vertex_numbers.proofs.Sums.{sum_by-map}
@@ -21,12 +21,12 @@ starts_rise d g h le within =
     let r : below_layer d g ≤ below_layer d h = subst (λ n. below_layer d g ≤ below_layer d n) (let e : g + (h - g) ≡ h = omega arith in e) (below_rises d g (h - g)) in
     subst (λ n. n ≤ layer_start d h) (sym (start d g (omega arith))) (subst (λ n. below_layer d g ≤ n) (sym (start d h within)) r)
 
--- the layer below one ends where it begins, as numbers that are worked out of equal sizes
-pub ends_at : (d e : Dims) (h first len : ℕ) → e ≡ d → 0 < h → h ≤ layers d → first ≡ layer_start e (h - 1) → len ≡ layer_len e (h - 1) → first + len ≡ layer_start d h
-ends_at d e h first len same some within p q =
-    (λ i. p i + q i)
-    ∙ (λ i. layer_start (same i) (h - 1) + layer_len (same i) (h - 1))
-    ∙ sym (next_start d (h - 1) (omega arith)) ∙ ap (layer_start d) (let f : h - 1 + 1 ≡ h = omega arith in f)
+-- nothing stands below the first layer
+pub no_layers : (d : Dims) → layer_start d 0 ≡ 0
+no_layers d = start d 0 (omega arith) ∙ none (even_len d) (odd_len d)
+  where
+    none : (e o : ℕ) → 0 / 2 * (e + o) + 0 % 2 * e ≡ 0
+    none e o = omega arith
 
 module _ (d : Dims) (ss : List State) where
   pub counts_len : length (layer_counts d ss) ≡ layers d
@@ -44,16 +44,8 @@ module _ (d : Dims) (ss : List State) where
   -- no node stands below the first layer, and all below the end
   pub no_nodes_below : nodes_before d ss (layer_start d 0) ≡ 0
   unfolding nodes_before
-  no_nodes_below = ap (λ n. length (filter (occurs (all_pieces d ss)) (range_with_len 0 (8 * n)))) (start d 0 (omega arith) ∙ none (even_len d) (odd_len d))
-    where
-      none : (e o : ℕ) → 0 / 2 * (e + o) + 0 % 2 * e ≡ 0
-      none e o = omega arith
+  no_nodes_below = ap (λ n. length (filter (occurs (all_pieces d ss)) (range_with_len 0 (8 * n)))) (no_layers d)
 
   pub all_nodes : nodes_before d ss (length (vertices d)) ≡ length (node_keys d ss)
   unfolding nodes_before node_keys
   all_nodes = refl
-
--- what follows where there is a value
-pub if_ok : {T E : Type 0} (r : Result T E) (P Q : T → Type 0) → IfOk r P → ((x : T) → P x → Q x) → IfOk r Q
-if_ok (Ok x) P Q h f = f x h
-if_ok (Err e) P Q h f = tt

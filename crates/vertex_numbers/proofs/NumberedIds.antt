@@ -13,7 +13,7 @@ use Rattle.node_laws.proofs.NumbersLeadBack.{numbers_by_vertex}
 use Rattle.node_laws.proofs.Ranks.{count_split}
 use Rattle.vertex_numbers.specs.Bits.{bits, has_bit, trues}
 use Rattle.vertex_numbers.specs.declared.starts.Draft.{Draft}
-use Rattle.vertex_numbers.specs.Numbering.{AreStarts, IsDraft, IsEmpty, mesh_bits, nodes_before, number_in, used_in}
+use Rattle.vertex_numbers.specs.Numbering.{AreStarts, IsDraft, mesh_bits, nodes_before, number_in, used_in}
 use Rattle.vertex_numbers.proofs.EightBits.{bit_of, ones_below, ones_of_bits}
 use Rattle.vertex_numbers.proofs.Sums.{length-filter_trues}
 
@@ -124,16 +124,6 @@ draft_more d ss id old new bits is e first nodes before count =
       nodes = nodes ∙ (λ i. is.nodes i ++ e i ∷ []) ∙ sym (more_of_ids (mesh_bits d ss) old.first id is.begun) ∙ ap (λ f. map (mesh_bits d ss) (range_with_len f (id + 1 - f))) (sym first);
       before = before ∙ (λ i. is.before i ++ is.count i ∷ []) ∙ sym (more_of_ids (nodes_before d ss) old.first id is.begun) ∙ ap (λ f. map (nodes_before d ss) (range_with_len f (id + 1 - f))) (sym first);
       count = count ∙ (λ i. is.count i + count_ones (e i)) ∙ nodes_more d ss id;
-    }
-
-pub draft_empty : (d : Dims) (ss : List State) (id count : ℕ) (draft : Draft) → IsEmpty id count draft → count ≡ nodes_before d ss id → IsDraft d ss id draft
-draft_empty d ss id count draft e c =
-    let none : id - draft.first ≡ 0 = (let f = e.at_first in omega arith) in
-    record {
-      begun = (let f = e.at_first in omega arith);
-      nodes = e.no_nodes ∙ (λ i. map (mesh_bits d ss) (range_with_len draft.first (sym none i)));
-      before = e.no_before ∙ (λ i. map (nodes_before d ss) (range_with_len draft.first (sym none i)));
-      count = e.at_count ∙ c;
     }
 
 -- what the draft of some ids says

@@ -72,6 +72,9 @@ module _ (d : Dims) (v : Vertex) (k : InDomain d v) (a : HasAllLater d v) where
   pub up_6 : IsUp d v 6 (vertex (v.h + 1) (v.y + 1) (v.x + 1))
   up_6 = up_in d v (vertex (v.h + 1) (v.y + 1) (v.x + 1)) 6 (behind (v.y + 1) (omega arith) (omega arith)) (is_step_6 v (vertex (v.h + 1) (v.y + 1) (v.x + 1)) refl refl refl)
 
-  -- the column of the next vertex along x
+  -- the column of the vertex, and that of the next one along x
+  pub column_here : HasColumn d v
+  column_here = record { h_high = a.h_high; y_high = a.y_high; y_low = a.y_low; x_low = a.x_low }
+
   pub column_next : HasColumn d (vertex v.h v.y (v.x + 2))
   column_next = record { h_high = a.h_high; y_high = a.y_high; y_low = a.y_low; x_low = (let l = a.x_low in omega arith) }

@@ -1,9 +1,10 @@
 -- Which nodes occur at the vertices of some ids, and their numbers.
-use Rattle.std.specs.Prelude.{◌≡◌, ℕ, ◌+◌, ◌-◌, ◌*◌, ◌/◌, ◌%◌, ◌^◌, ◌<◌, ◌≤◌, Bool, List, [], length, map, filter, slice_index, count_ones}
+use Rattle.std.specs.Prelude.{◌≡◌, ℕ, ◌+◌, ◌-◌, ◌*◌, ◌/◌, ◌%◌, ◌^◌, ◌<◌, ◌≤◌, true, Bool, List, [], length, map, filter, slice_index, count_ones}
 use Rattle.std.specs.List.{range_with_len}
 use Rattle.definitions.specs.declared.Dims.{Dims}
 use Rattle.definitions.specs.declared.State.{State}
-use Rattle.definitions.specs.Mesh.{all_pieces, occurs}
+use Rattle.definitions.specs.Lattice.{vertices}
+use Rattle.definitions.specs.Mesh.{all_pieces, node_keys, number_of, occurs}
 use Rattle.vertex_numbers.specs.Bits.{bits, has_bit}
 use Rattle.vertex_numbers.specs.declared.starts.Draft.{Draft}
 
@@ -15,7 +16,7 @@ pub record Numbering : Type 0 where
   pub before : List ℕ
 
 -- the key is that of a node at one of these vertices
-pub record Holds (n : Numbering) (key : ℕ) : Type 0 where
+pub record HoldsKey (n : Numbering) (key : ℕ) : Type 0 where
   pub low : n.first ≤ key / 8
   pub high : key / 8 < n.first + n.len
 
@@ -30,6 +31,23 @@ number_in n key = slice_index n.before (key / 8 - n.first) + count_ones (slice_i
 pub record AreStarts (nodes before : List ℕ) : Type 0 where
   pub whole : length before ≡ length nodes
   pub few : (n : ℕ) → n < length before → slice_index before n + 8 < 2 ^ 32
+
+-- which nodes a numbering says that occur, and that their numbers are those of the mesh
+abbrev pub TellsUsed : Dims → List State → Numbering → Type 0
+TellsUsed d ss n = (key : ℕ) → HoldsKey n key → used_in n key ≡ occurs (all_pieces d ss) key
+
+abbrev pub TellsNumbers : Dims → List State → Numbering → Type 0
+TellsNumbers d ss n = (key : ℕ) → HoldsKey n key → occurs (all_pieces d ss) key ≡ true → number_in n key ≡ number_of (node_keys d ss) key
+
+-- a numbering of the nodes of the vertices of the ids from a on and before b, and one of all nodes
+pub record NumbersIds (d : Dims) (ss : List State) (a b : ℕ) (n : Numbering) : Type 0 where
+  pub first : n.first ≡ a
+  pub end : n.first + n.len ≡ b
+  pub used : TellsUsed d ss n
+  pub number : TellsNumbers d ss n
+
+abbrev pub NumbersMesh : Dims → List State → Numbering → Type 0
+NumbersMesh d ss n = NumbersIds d ss 0 (length (vertices d)) n
 
 -- those of the mesh: the bits of a vertex's nodes, and how many stand before its first
 unfoldable pub mesh_bits : Dims → List State → ℕ → ℕ

@@ -6,8 +6,9 @@ ghost use Rattle.vertex_numbers.specs.Alike.{AreAlike, HasColumn, IsColumn, IsUp
 ghost use Rattle.vertex_numbers.specs.Sources.{KnowsAround};
 
 use crate::StateSource;
-use crate::around::sign_of;
+use crate::around::sign_there;
 use crate::later::has_all_later;
+use bcc_lattice::sign_of;
 use definitions::Sign;
 use st_base::{Dims, Vertex};
 
@@ -15,23 +16,23 @@ use st_base::{Dims, Vertex};
 #[inline(always)]
 fn is_at<S: StateSource>(
     from: &mut S,
-    _dims: Dims,
-    _v: Vertex,
-    _number: u8,
+    dims: Dims,
+    v: Vertex,
+    number: u8,
     w: Vertex,
     sign: Sign,
 ) -> bool
-    requires dims { IsDims _dims }
-    requires sizes { S.sizes from.old ≡ _dims }
-    requires domain { InDomain _dims _v }
-    requires known { KnowsAround _dims (S.knows from.old) _v.h }
-    requires low { 1 ≤ _number }
-    requires high { _number ≤ 7 }
-    requires neighbour { IsUp _dims _v _number w }
-    ensures sign { result ≡ true → sign_towards _dims (S.told from.old) _v true _number ≡ Some sign }
+    requires dims { IsDims dims }
+    requires sizes { S.sizes from.old ≡ dims }
+    requires domain { InDomain dims v }
+    requires known { KnowsAround dims (S.knows from.old) v.h }
+    requires low { 1 ≤ number }
+    requires high { number ≤ 7 }
+    requires neighbour { IsUp dims v number w }
+    ensures sign { result ≡ true → sign_towards dims (S.told from.old) v true number ≡ Some sign }
     ensures same { S.unchanged from.old from.new }
 {
-    sign_of(from.state(w)) == sign
+    sign_there(from, dims, v, number, w) == sign
 }
 
 /// Whether the vertices of a column in the layer above a vertex have its sign.

@@ -1,13 +1,16 @@
-ghost use Rattle.std.specs.Prelude.{◌≡◌, ◌≤◌, ◌<◌, ◌+◌, ◌||◌, not, true, false};
+ghost use Rattle.std.specs.Prelude.{◌≡◌, ◌≤◌, ◌<◌, ◌+◌, ◌||◌, not, true, false, Some};
 ghost use Rattle.definitions.specs.Lattice.{InDomain, IsDims, neighbour};
 ghost use Rattle.definitions.specs.States.{sign_of_state};
 ghost use Rattle.definitions.specs.Stencils.{is_plus};
+ghost use Rattle.vertex_numbers.specs.Alike.{HasColumn, IsUp};
+ghost use Rattle.vertex_numbers.specs.Later.{HasAllLater};
 ghost use Rattle.vertex_numbers.specs.Around.{sign_towards, signs_towards, is_plus_there, has_plus_there};
 ghost use Rattle.vertex_numbers.specs.Sources.{KnowsAround};
 
 use crate::StateSource;
-use bcc_lattice::{Dir, neighbour};
-use definitions::{Sign, State};
+use crate::later::has_all_later;
+use bcc_lattice::{Dir, neighbour, sign_of};
+use definitions::Sign;
 use st_base::{Dims, Vertex};
 
 /// The sign of a vertex, and those of its neighbours upwards in directions 1 to 7 where these are in the
@@ -16,17 +19,6 @@ use st_base::{Dims, Vertex};
 pub struct Around {
     pub own: Sign,
     pub up: [Option<Sign>; 7],
-}
-
-/// The sign of a state.
-pub fn sign_of(state: State) -> Sign
-    ensures { result ≡ sign_of_state state }
-{
-    match state {
-        State::Minus => Sign::Minus,
-        State::Plus => Sign::Plus,
-        State::Zero { .. } => Sign::Zero,
-    }
 }
 
 /// Whether there is a Plus.
@@ -66,6 +58,137 @@ pub fn sign_towards<S: StateSource>(
     }
 }
 
+/// The sign of a neighbour upwards that is known to be in the domain.
+#[inline(always)]
+pub fn sign_there<S: StateSource>(
+    from: &mut S,
+    _dims: Dims,
+    _v: Vertex,
+    _number: u8,
+    w: Vertex,
+) -> Sign
+    requires dims { IsDims _dims }
+    requires sizes { S.sizes from.old ≡ _dims }
+    requires domain { InDomain _dims _v }
+    requires known { KnowsAround _dims (S.knows from.old) _v.h }
+    requires low { 1 ≤ _number }
+    requires high { _number ≤ 7 }
+    requires neighbour { IsUp _dims _v _number w }
+    ensures sign { sign_towards _dims (S.told from.old) _v true _number ≡ Some result }
+    ensures same { S.unchanged from.old from.new }
+{
+    sign_of(from.state(w))
+}
+
+/// The signs upwards of a vertex, where all its neighbours upwards are in the domain.
+#[inline(always)]
+#[tactic(auto, using(lattice_counts::proofs::Sizes::nx_small, lattice_counts::proofs::Sizes::ny_small, lattice_counts::proofs::Sizes::nz_small, crate::proofs::Upwards::up_1, crate::proofs::Upwards::up_2, crate::proofs::Upwards::up_3, crate::proofs::Upwards::up_4, crate::proofs::Upwards::up_5, crate::proofs::Upwards::up_6, crate::proofs::Upwards::up_7))]
+fn signs_within<S: StateSource>(from: &mut S, dims: Dims, v: Vertex) -> [Option<Sign>; 7]
+    requires dims { IsDims dims }
+    requires sizes { S.sizes from.old ≡ dims }
+    requires domain { InDomain dims v }
+    requires known { KnowsAround dims (S.knows from.old) v.h }
+    requires all { HasAllLater dims v }
+    requires column { HasColumn dims v }
+    ensures up { result ≡ signs_towards dims (S.told from.old) v true }
+    ensures same { S.unchanged from.old from.new }
+{
+    let Vertex { h, y, x } = v;
+    let (above, below, right) = (y + 1, y - 1, x + 1);
+    let first = sign_there(from, dims, v, 1, Vertex { h, y, x: x + 2 });
+    let second = sign_there(from, dims, v, 2, Vertex { h, y: y + 2, x });
+    let left = x - 1;
+    let up = h + 1;
+    let third = sign_there(
+        from,
+        dims,
+        v,
+        3,
+        Vertex {
+            h: up,
+            y: below,
+            x: left,
+        },
+    );
+    let fourth = sign_there(
+        from,
+        dims,
+        v,
+        4,
+        Vertex {
+            h: up,
+            y: below,
+            x: right,
+        },
+    );
+    let fifth = sign_there(
+        from,
+        dims,
+        v,
+        5,
+        Vertex {
+            h: up,
+            y: above,
+            x: left,
+        },
+    );
+    let sixth = sign_there(
+        from,
+        dims,
+        v,
+        6,
+        Vertex {
+            h: up,
+            y: above,
+            x: right,
+        },
+    );
+    let seventh = sign_there(from, dims, v, 7, Vertex { h: h + 2, y, x });
+    [
+        Some(first),
+        Some(second),
+        Some(third),
+        Some(fourth),
+        Some(fifth),
+        Some(sixth),
+        Some(seventh),
+    ]
+}
+
+/// The signs upwards of a vertex.
+fn signs_anywhere<S: StateSource>(from: &mut S, dims: Dims, v: Vertex) -> [Option<Sign>; 7]
+    requires dims { IsDims dims }
+    requires sizes { S.sizes from.old ≡ dims }
+    requires domain { InDomain dims v }
+    requires known { KnowsAround dims (S.knows from.old) v.h }
+    ensures up { result ≡ signs_towards dims (S.told from.old) v true }
+    ensures same { S.unchanged from.old from.new }
+{
+    let mut up = [None; 7];
+    for n in 0..7u8 {
+        up[n as usize] = sign_towards(from, dims, v, true, n + 1);
+    }
+    up
+}
+
+/// The signs upwards of a vertex, at once where all its neighbours upwards are in the domain.
+#[inline(always)]
+#[tactic(auto, using(crate::proofs::Upwards::column_here))]
+fn signs_upwards<S: StateSource>(from: &mut S, dims: Dims, v: Vertex) -> [Option<Sign>; 7]
+    requires dims { IsDims dims }
+    requires sizes { S.sizes from.old ≡ dims }
+    requires domain { InDomain dims v }
+    requires known { KnowsAround dims (S.knows from.old) v.h }
+    ensures up { result ≡ signs_towards dims (S.told from.old) v true }
+    ensures same { S.unchanged from.old from.new }
+{
+    if has_all_later(dims, v) {
+        signs_within(from, dims, v)
+    } else {
+        signs_anywhere(from, dims, v)
+    }
+}
+
 /// The signs at a vertex and upwards of it.
 #[inline(always)]
 pub fn signs_around<S: StateSource>(from: &mut S, dims: Dims, v: Vertex) -> Around
@@ -78,10 +201,7 @@ pub fn signs_around<S: StateSource>(from: &mut S, dims: Dims, v: Vertex) -> Arou
     ensures same { S.unchanged from.old from.new }
 {
     let own = sign_of(from.state(v));
-    let mut up = [None; 7];
-    for n in 0..7u8 {
-        up[n as usize] = sign_towards(from, dims, v, true, n + 1);
-    }
+    let up = signs_upwards(from, dims, v);
     Around { own, up }
 }
 

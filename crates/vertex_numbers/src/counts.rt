@@ -12,6 +12,7 @@ use crate::alike::follow;
 use crate::around::signs_around;
 use crate::nodes::nodes_around;
 use crate::pieces::pieces_up;
+use bcc_lattice::{columns, rows, vertex_in_row};
 use definitions::Sign;
 use st_base::{Dims, Vertex};
 
@@ -117,12 +118,8 @@ fn share_of_row<S: StateSource>(from: &mut S, dims: Dims, h: u32, j: u32) -> Sha
 {
     let mut share = Share { nodes: 0, tets: 0 };
     let mut here: Option<Sign> = None;
-    for i in 0..dims.nx + 2 - h % 2 {
-        let v = Vertex {
-            h,
-            y: j * 2 + h % 2,
-            x: i * 2 + h % 2,
-        };
+    for i in 0..columns(dims, h) {
+        let v = vertex_in_row(h, j, i);
         let more = count_next(from, dims, v, here);
         here = more.next;
         share.nodes += more.share.nodes;
@@ -132,6 +129,12 @@ fn share_of_row<S: StateSource>(from: &mut S, dims: Dims, h: u32, j: u32) -> Sha
 }
 
 /// The numbers of nodes and tetrahedra of the mesh that belong to layer `h`.
+///
+/// ```rust
+/// let mut source = &states;
+/// let count = layer_count(&mut source, states.dims(), h);
+/// println!(rt; "layer {h}: {} nodes, {} tetrahedra", count.nodes, count.tets)?;
+/// ```
 #[tactic(auto, using(lattice_counts::proofs::Sizes::nx_small, lattice_counts::proofs::Sizes::ny_small))]
 pub fn layer_count<S: StateSource>(from: &mut S, dims: Dims, h: u32) -> LayerCount
     requires dims { IsDims dims }
@@ -150,7 +153,7 @@ pub fn layer_count<S: StateSource>(from: &mut S, dims: Dims, h: u32) -> LayerCou
         nodes: 0,
         tets: 0,
     };
-    for j in 0..dims.ny + 2 - h % 2 {
+    for j in 0..rows(dims, h) {
         let more = share_of_row(from, dims, h, j);
         count.nodes += more.nodes;
         count.tets += more.tets;

@@ -2,7 +2,7 @@ ghost use Rattle.std.specs.Prelude.{◌≡◌, ◌+◌, ◌*◌, ◌<◌, ◌≤
 ghost use Rattle.definitions.specs.Lattice.{InDomain, IsDims, id as id_of, vertices};
 ghost use Rattle.vertex_numbers.specs.Later.{AreBelow, AreLater, HasAllLater, HaveSign};
 
-use bcc_lattice::id;
+use bcc_lattice::{id, layers};
 use definitions::Sign;
 use snap_rule::States;
 use st_base::{Dims, Vertex};
@@ -31,7 +31,7 @@ pub fn has_all_later(dims: Dims, v: Vertex) -> bool
         && 1 <= v.y
         && v.x + 2 < 2 * dims.nx + 3
         && v.y + 2 < 2 * dims.ny + 3
-        && v.h + 2 < 2 * dims.nz + 3
+        && v.h + 2 < layers(dims)
 }
 
 /// The ids of the neighbours of a vertex upwards, which are all in the domain.

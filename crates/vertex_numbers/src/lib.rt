@@ -11,9 +11,11 @@ mod pieces;
 mod source;
 mod starts;
 
+pub use around::signs_around;
 pub use counts::{LayerCount, layer_count};
 pub use later::{Later, have_sign, later_ids};
 pub use nodes::{nodes_at, used};
 pub use offsets::Offsets;
+pub use pieces::pieces_up;
 pub use source::StateSource;
 pub use starts::{Numbered, Starts};

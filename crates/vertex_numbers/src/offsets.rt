@@ -1,4 +1,4 @@
-ghost use Rattle.std.specs.Prelude.{◌≡◌, ◌<◌, ◌^◌, IfOk, length, map, sum_by, take};
+ghost use Rattle.std.specs.Prelude.{◌≡◌, ◌≤◌, ◌<◌, ◌^◌, IfOk, length, map, sum_by, take};
 ghost use Rattle.std.specs.List.{range_with_len};
 
 use crate::LayerCount;
@@ -16,6 +16,8 @@ pub struct Offset {
 
 /// The numbers of nodes and tetrahedra of all layers, and of those below each. Contracts see the list of
 /// the layers' counts.
+///
+/// Each layer stands with the sums of those below it, and the two numbers are the sums of all.
 #[derive(Drop)]
 pub struct Offsets {
     layers: Vec<Offset>,
@@ -69,20 +71,26 @@ impl Offsets {
         })
     }
 
-    /// How many nodes the layers below layer `h` have.
+    /// How many nodes the layers below layer `h` have, which may be one past the last.
     pub fn node_start(&self, h: u32) -> u32
-        requires { h < length self.now }
+        requires { h ≤ length self.now }
         ensures { result ≡ sum_by (λ c. c.nodes) (take h self.now) }
     {
-        self.layers[h as usize].nodes_below
+        match self.layers.get(h as usize) {
+            Some(layer) => layer.nodes_below,
+            None => self.nodes,
+        }
     }
 
-    /// How many tetrahedra the layers below layer `h` have.
+    /// How many tetrahedra the layers below layer `h` have, which may be one past the last.
     pub fn tet_start(&self, h: u32) -> u64
-        requires { h < length self.now }
+        requires { h ≤ length self.now }
         ensures { result ≡ sum_by (λ c. c.tets) (take h self.now) }
     {
-        self.layers[h as usize].tets_below
+        match self.layers.get(h as usize) {
+            Some(layer) => layer.tets_below,
+            None => self.tets,
+        }
     }
 
     /// How many nodes there are.

@@ -1,22 +1,27 @@
-ghost use Rattle.std.specs.Prelude.{◌≡◌, ◌≤◌, ◌<◌, ◌+◌, ℕ, ◌*◌, true, length, IfOk, OnOk};
+ghost use Rattle.std.specs.Prelude.{◌≡◌, ◌≤◌, ◌<◌, ◌+◌, ◌*◌, length, IfOk, IfSome, OnOk};
 ghost use Rattle.std.specs.List.{list_any, range_with_len};
-ghost use Rattle.definitions.specs.Lattice.{InDomain, IsDims, id, layers};
+ghost use Rattle.definitions.specs.Lattice.{InDomain, IsDims, id, layers, vertex};
 ghost use Rattle.definitions.specs.Layout.{layer_start};
-ghost use Rattle.definitions.specs.Mesh.{ArePadded, all_pieces, node_keys, number_of, occurs};
+ghost use Rattle.definitions.specs.Mesh.{ArePadded, node_keys};
 ghost use Rattle.lattice_counts.specs.Counts.{row_len};
+ghost use Rattle.node_laws.specs.Used.{told};
+ghost use Rattle.vertex_numbers.specs.Alike.{IsColumn};
 ghost use Rattle.vertex_numbers.specs.Counts.{layer_counts, row_start};
-ghost use Rattle.vertex_numbers.specs.Numbering.{Holds, IsDraft, IsEmpty, mesh_bits, nodes_before, number_in, used_in};
+ghost use Rattle.vertex_numbers.specs.Numbering.{HoldsKey, IsDraft, IsEmpty, NumbersIds, NumbersMesh, mesh_bits, nodes_before, number_in, used_in};
 
-use crate::{Offsets, have_sign, later_ids, nodes_at};
-use bcc_lattice::{Layout, id as vertex_id};
+use crate::Offsets;
+use crate::nodes::{Noted, nodes_next};
+use bcc_lattice::{columns, ids_below, layers, rows, vertex_in_row};
 use definitions::Sign;
 use snap_rule::States;
-use st_base::{NoMemory, Vertex};
+use st_base::{Dims, NoMemory, Vertex};
 use std::alloc::Global;
 use std::marker::Model;
 
 /// The nodes at the vertices of some ids, and their numbers: for each vertex how many nodes of the mesh
 /// stand before its first, and the bits of its own. Contracts see which occur, and their numbers.
+///
+/// Each vertex has one count and one byte, and each count is more than eight below 2^32.
 #[derive(Drop)]
 pub struct Starts {
     first: u32,
@@ -51,37 +56,20 @@ pub struct Numbered {
     pub count: u32,
 }
 
-/// The bits of the nodes at a vertex.
-fn bits_at(states: &States, v: Vertex) -> u8
-    requires dims { IsDims states.now.dims }
+/// The bits of the nodes at a vertex, and the sign of the next column along its row, if it has one; `here` is the sign
+/// of the vertex's own column, if it is known to have one.
+#[inline(always)]
+fn bits_next(states: &States, dims: Dims, v: Vertex, here: Option<Sign>) -> Noted
+    requires dims { dims ≡ states.now.dims }
+    requires sizes { IsDims dims }
     requires padded { ArePadded states.now.dims states.now.states }
-    requires domain { InDomain states.now.dims v }
-    ensures { result ≡ mesh_bits states.now.dims states.now.states (id states.now.dims v) }
+    requires domain { InDomain dims v }
+    requires here { IfSome here (IsColumn dims (told dims states.now.states) v) }
+    ensures bits { result.bits ≡ mesh_bits dims states.now.states (id dims v) }
+    ensures next { IfSome result.next (IsColumn dims (told dims states.now.states) (vertex v.h v.y (v.x + 2))) }
 {
     let mut source = states;
-    nodes_at(&mut source, states.dims(), v)
-}
-
-/// The same, at once where the vertex and its neighbours upwards have one sign.
-#[inline(always)]
-fn bits_of(states: &States, v: Vertex) -> u8
-    requires dims { IsDims states.now.dims }
-    requires padded { ArePadded states.now.dims states.now.states }
-    requires domain { InDomain states.now.dims v }
-    ensures { result ≡ mesh_bits states.now.dims states.now.states (id states.now.dims v) }
-{
-    let dims = states.dims();
-    let Some(later) = later_ids(dims, v) else {
-        return bits_at(states, v);
-    };
-    let own = vertex_id(dims, v);
-    if have_sign(states, own, &later, Sign::Minus) {
-        0
-    } else if have_sign(states, own, &later, Sign::Plus) {
-        1
-    } else {
-        bits_at(states, v)
-    }
+    nodes_next(&mut source, dims, v, here)
 }
 
 /// The starts of no ids yet, from an id on before which so many nodes stand.
@@ -114,17 +102,14 @@ fn push_row(states: &States, h: u32, j: u32, draft: &mut Draft) -> Result<(), No
     ensures first { draft.new.first ≡ draft.old.first }
 {
     let dims = states.dims();
-    for i in 0..dims.nx + 2 - h % 2 {
-        let v = Vertex {
-            h,
-            y: j * 2 + h % 2,
-            x: i * 2 + h % 2,
-        };
-        let bits = bits_of(states, v);
-        if draft.before.push(draft.count).is_err() || draft.nodes.push(bits).is_err() {
+    let mut here: Option<Sign> = None;
+    for i in 0..columns(dims, h) {
+        let noted = bits_next(states, dims, vertex_in_row(h, j, i), here);
+        here = noted.next;
+        if draft.before.push(draft.count).is_err() || draft.nodes.push(noted.bits).is_err() {
             return Err(NoMemory);
         }
-        draft.count += bits.count_ones();
+        draft.count += noted.bits.count_ones();
     }
     Ok(())
 }
@@ -139,8 +124,7 @@ fn push_layer(states: &States, h: u32, draft: &mut Draft) -> Result<(), NoMemory
     ensures draft { OnOk result (IsDraft states.now.dims states.now.states (layer_start states.now.dims (h + 1)) draft.new) }
     ensures first { draft.new.first ≡ draft.old.first }
 {
-    let dims = states.dims();
-    for j in 0..dims.ny + 2 - h % 2 {
+    for j in 0..rows(states.dims(), h) {
         push_row(states, h, j, draft)?;
     }
     Ok(())
@@ -163,12 +147,9 @@ fn drafted(
     ensures draft { IfOk result (IsDraft states.now.dims states.now.states (layer_start states.now.dims to)) }
     ensures first { IfOk result (λ draft. draft.first ≡ layer_start states.now.dims from) }
 {
-    let layout = Layout {
-        dims: states.dims(),
-        slab: 1,
-    };
-    let first = layout.layer_start(from);
-    let end = layout.layer_start(to - 1) + layout.layer_len(to - 1);
+    let dims = states.dims();
+    let first = ids_below(dims, from);
+    let end = ids_below(dims, to);
     let mut draft = empty(alloc, first, (end - first) as usize, count)?;
     for h in from..to {
         push_layer(states, h, &mut draft)?;
@@ -190,13 +171,7 @@ fn starts_from(
     requires some { from < to }
     requires within { to ≤ layers states.now.dims }
     requires count { count ≡ nodes_before states.now.dims states.now.states (layer_start states.now.dims from) }
-    ensures first { IfOk result (λ n. n.starts.first ≡ layer_start states.now.dims from) }
-    ensures end { IfOk result (λ n. n.starts.first + n.starts.len ≡ layer_start states.now.dims to) }
-    ensures used { IfOk result (λ n. (key : ℕ) → Holds n.starts key
-        → used_in n.starts key ≡ occurs (all_pieces states.now.dims states.now.states) key) }
-    ensures number { IfOk result (λ n. (key : ℕ) → Holds n.starts key
-        → occurs (all_pieces states.now.dims states.now.states) key ≡ true
-        → number_in n.starts key ≡ number_of (node_keys states.now.dims states.now.states) key) }
+    ensures numbers { IfOk result (λ n. NumbersIds states.now.dims states.now.states (layer_start states.now.dims from) (layer_start states.now.dims to) n.starts) }
     ensures count { IfOk result (λ n. n.count ≡ nodes_before states.now.dims states.now.states (layer_start states.now.dims to)) }
 {
     let Draft {
@@ -229,34 +204,19 @@ impl Starts {
         requires padded { ArePadded states.now.dims states.now.states }
         requires some { from < to }
         requires within { to ≤ layers states.now.dims }
-        ensures first { IfOk result (λ s. s.first ≡ layer_start states.now.dims from) }
-        ensures end { IfOk result (λ s. s.first + s.len ≡ layer_start states.now.dims to) }
-        ensures used { IfOk result (λ s. (key : ℕ) → Holds s key
-            → used_in s key ≡ occurs (all_pieces states.now.dims states.now.states) key) }
-        ensures number { IfOk result (λ s. (key : ℕ) → Holds s key
-            → occurs (all_pieces states.now.dims states.now.states) key ≡ true
-            → number_in s key ≡ number_of (node_keys states.now.dims states.now.states) key) }
+        ensures { IfOk result (NumbersIds states.now.dims states.now.states (layer_start states.now.dims from) (layer_start states.now.dims to)) }
     {
-        match starts_from(alloc, states, from, to, offsets.node_start(from)) {
-            Ok(numbered) => Ok(numbered.starts),
-            Err(fault) => Err(fault),
-        }
+        Ok(starts_from(alloc, states, from, to, offsets.node_start(from))?.starts)
     }
 
     /// The nodes at all vertices, and how many there are.
     #[tactic(auto, using(lattice_counts::proofs::Sizes::nz_small))]
     pub fn of_all(alloc: Global, states: &States) -> Result<Numbered, NoMemory>
         requires { ArePadded states.now.dims states.now.states }
-        ensures first { IfOk result (λ n. n.starts.first ≡ layer_start states.now.dims 0) }
-        ensures end { IfOk result (λ n. n.starts.first + n.starts.len ≡ layer_start states.now.dims (layers states.now.dims)) }
-        ensures used { IfOk result (λ n. (key : ℕ) → Holds n.starts key
-            → used_in n.starts key ≡ occurs (all_pieces states.now.dims states.now.states) key) }
-        ensures number { IfOk result (λ n. (key : ℕ) → Holds n.starts key
-            → occurs (all_pieces states.now.dims states.now.states) key ≡ true
-            → number_in n.starts key ≡ number_of (node_keys states.now.dims states.now.states) key) }
+        ensures numbers { IfOk result (λ n. NumbersMesh states.now.dims states.now.states n.starts) }
         ensures count { IfOk result (λ n. n.count ≡ length (node_keys states.now.dims states.now.states)) }
     {
-        starts_from(alloc, states, 0, 2 * states.dims().nz + 3, 0)
+        starts_from(alloc, states, 0, layers(states.dims()), 0)
     }
 
     /// The nodes at the vertices of layer `h`.
@@ -270,20 +230,14 @@ impl Starts {
         requires offsets { offsets.now ≡ layer_counts states.now.dims states.now.states }
         requires padded { ArePadded states.now.dims states.now.states }
         requires layer { h < layers states.now.dims }
-        ensures first { IfOk result (λ s. s.first ≡ layer_start states.now.dims h) }
-        ensures end { IfOk result (λ s. s.first + s.len ≡ layer_start states.now.dims (h + 1)) }
-        ensures used { IfOk result (λ s. (key : ℕ) → Holds s key
-            → used_in s key ≡ occurs (all_pieces states.now.dims states.now.states) key) }
-        ensures number { IfOk result (λ s. (key : ℕ) → Holds s key
-            → occurs (all_pieces states.now.dims states.now.states) key ≡ true
-            → number_in s key ≡ number_of (node_keys states.now.dims states.now.states) key) }
+        ensures { IfOk result (NumbersIds states.now.dims states.now.states (layer_start states.now.dims h) (layer_start states.now.dims (h + 1))) }
     {
         Starts::of_layers(alloc, states, offsets, h, h + 1)
     }
 
     /// Whether the node with a key of one of these vertices occurs.
     pub fn used(&self, key: u32) -> bool
-        requires { Holds self.now key }
+        requires { HoldsKey self.now key }
         ensures { result ≡ used_in self.now key }
     {
         let nodes = self.nodes[(key / 8 - self.first) as usize];
@@ -310,7 +264,7 @@ impl Starts {
 
     /// The number of a node of one of these vertices.
     pub fn number(&self, key: u32) -> u32
-        requires { Holds self.now key }
+        requires { HoldsKey self.now key }
         ensures { result ≡ number_in self.now key }
     {
         let at = (key / 8 - self.first) as usize;

@@ -17,7 +17,7 @@ returns-then-used c =
     sym (c.requires.used c.args.key (record { low = c.requires.low; high = c.requires.high })) ∙ sym c.used.ensures ∙ c.if-used.true
     in
     let key : 8 * id f.dims c.args.v + c.args.key % 8 ≡ c.args.key = let e = c.requires.vertex in whole c.args.key (id f.dims c.args.v) e in
-    subst (λ (xs : List Place). OnOk c.push.result (c.push.new.places.items ≡ c.args.places.now.items ++ xs))
+    subst (λ (xs : List Place). OnOk c.push.result (c.push.new.list.items ≡ c.args.places.now.items ++ xs))
     (ap (λ p. p ∷ []) (c.node_place.ensures ∙ ap (node_place f ss) key) ∙ sym (ap (λ b. if b then node_place f ss c.args.key ∷ [] else []) yes))
     c.push.ensures
   where

@@ -3,15 +3,13 @@ use Rattle.std.proofs.lemmas.List.{append-nil}
 use Rattle.definitions.specs.Mesh.{all_pieces, node_place, occurs}
 use Rattle.mesh_lists.proofs.NodePlaces.{keys_more}
 use Rattle.mesh_lists.proofs.Numberings.{no_keys}
-use Rattle.mesh_lists.proofs.Results.{on_ok}
 use Rattle.mesh_lists.proofs.places.push_nodes.Goals as goal
 
 pub loop-dir-preserved : goal.loop-dir-preserved
 loop-dir-preserved c =
     let f = c.args.field.now in
     let ss = c.args.states.now.states in
-    keys_more (node_place f ss) (occurs (all_pieces f.dims ss)) (8 * c.args.id) c.loop-dir.dir c.args.places.now.items c.loop-dir.places.items c.push_node.new.places.items c.loop-dir.invariant
-    (on_ok c.push_node.result (sym c.is_err.ensures.value ∙ c.if-is_err.false) c.push_node.ensures)
+    keys_more (node_place f ss) (occurs (all_pieces f.dims ss)) (8 * c.args.id) c.loop-dir.dir c.args.places.now.items c.loop-dir.places.items c.push_node.new.places.items c.loop-dir.invariant c.in_ok-push_node.ensures
 
 pub returns-then-not-has_nodes : goal.returns-then-not-has_nodes
 returns-then-not-has_nodes c =

@@ -8,7 +8,6 @@ use Rattle.definitions.specs.declared.Vertex.{Vertex}
 use Rattle.lattice_laws.specs.Ascending.{Has}
 use Rattle.lattice_laws.proofs.Sublists.{has_at}
 use Rattle.mesh_lists.proofs.Pieces.{ids_fit, tet_at, tets_count, tets_more}
-use Rattle.mesh_lists.proofs.Results.{on_ok}
 use Rattle.mesh_lists.proofs.tetrahedra.push_tets_from.Goals as goal
 
 pub push_pieces-requires-clause-lowest : goal.push_pieces-requires-clause-lowest
@@ -47,7 +46,7 @@ loop-n-preserved c =
     let six : length r.result.of ≡ 6 = search rules in
     let t = tet_at d c.dims.result c.args.v r.result.len r.result.of c.loop-n.n (record { at = []; ids = [] }) c.dims.ensures.dims six r.ensures.len c.loop-n-test.true r.ensures.tets r.ensures.ids r.ensures.lattice in
     tets_more (map (number_of (node_keys d ss))) (tet_pieces d ss) (tets_from d c.args.v) c.loop-n.n [] c.args.tets.now.items c.loop-n.tets.items c.push_pieces.new.tets.items t.within c.loop-n.invariant
-    (on_ok c.push_pieces.result (sym c.is_err.ensures.value ∙ c.if-is_err.false) c.push_pieces.ensures ∙ ap (λ v. c.loop-n.tets.items ++ map (map (number_of (node_keys d ss))) (tet_pieces d ss v)) t.here)
+    (c.in_ok-push_pieces.ensures ∙ ap (λ v. c.loop-n.tets.items ++ map (map (number_of (node_keys d ss))) (tet_pieces d ss v)) t.here)
 
 pub returns : goal.returns
 returns c =

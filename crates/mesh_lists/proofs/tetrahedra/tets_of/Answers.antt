@@ -3,14 +3,13 @@ use Rattle.std.specs.Prelude.{flat_map}
 use Rattle.definitions.specs.Lattice.{InDomain, id, vertex, vertex_at, vertices}
 use Rattle.definitions.specs.Mesh.{node_keys, number_of, tet_pieces}
 use Rattle.definitions.specs.Tetrahedra.{tets_from}
-use Rattle.mesh_lists.proofs.NextVertex.{first_vertex, in_loop, next_has_id}
+use Rattle.bcc_lattice.proofs.NextVertex.{first_vertex, in_loop, next_has_id}
 use Rattle.mesh_lists.proofs.Layers.{all_layers}
 use Rattle.mesh_lists.proofs.Pieces.{pieces_by_vertex, tets_more}
-use Rattle.mesh_lists.proofs.Results.{on_ok}
 use Rattle.mesh_lists.proofs.tetrahedra.tets_of.Goals as goal
 
 pub loop-id-init : goal.loop-id-init
-loop-id-init c = record { at = λ lt. first_vertex c.args.states.now.dims; made = c.in-Ok.ensures.items }
+loop-id-init c = record { at = λ lt. c.first_vertex-v.ensures.vertex ∙ first_vertex c.args.states.now.dims; made = c.in-Ok.ensures.items }
 
 pub push_tets_at-requires-clause-numbers : goal.push_tets_at-requires-clause-numbers
 push_tets_at-requires-clause-numbers c = all_layers c.args.states.now.dims c.args.states.now.states c.loop-id.v.h c.args.starts.now c.requires.numbers
@@ -41,7 +40,7 @@ loop-id-preserved c =
           (subst (λ e. id e c.loop-id.v + 1 < length (vertices e) → c.next_vertex-v.result ≡ vertex_at e (id e c.loop-id.v + 1)) c.dims-dims.ensures.dims c.next_vertex-v.ensures);
       made =
           tets_more (map (number_of (node_keys d ss))) (λ v. flat_map (tet_pieces d ss) (tets_from d v)) (vertices d) c.loop-id.id (vertex 0 0 0) [] c.loop-id.tets.items c.push_tets_at.new.tets.items lt c.loop-id.invariant.made
-          (on_ok c.push_tets_at.result (sym c.is_err.ensures.value ∙ c.if-is_err.false) c.push_tets_at.ensures
+          (c.in_ok-push_tets_at.ensures
           ∙ ap (λ v. c.loop-id.tets.items ++ map (map (number_of (node_keys d ss))) (flat_map (tet_pieces d ss) (tets_from d v))) (c.loop-id.invariant.at lt));
     }
 

@@ -1,4 +1,4 @@
-use Rattle.std.proofs.Common.{rules, ◌≡◌, ◌+◌, ◌<◌, ◌≤◌, ℕ, List, arith, refl, length, subst, sym, ap, ◌∙◌}
+use Rattle.std.proofs.Common.{rules, ◌≡◌, ◌+◌, ◌≤◌, ℕ, List, arith, refl, length, subst, sym, ap, ◌∙◌}
 use Rattle.std.specs.Prelude.{flat_map}
 use Rattle.std.specs.List.{range_with_len}
 use Rattle.std.proofs.KnownBytes.{Appends-trans}
@@ -8,12 +8,10 @@ use Rattle.node_ele_write.proofs.Pieces.{on_err}
 use Rattle.slab_emit.specs.declared.Part.{Part}
 use Rattle.slab_emit.specs.Parts.{AreParts}
 use Rattle.slab_emit.specs.Sources.{slab_lines}
+use Rattle.st_base.proofs.Frames.{same_port, then_port}
 use Rattle.mesh_rounds.specs.Rounds.{extremes_to, text_of}
-use Rattle.mesh_rounds.proofs.AllRounds.{all_slabs, broke, found_all, found_none, parts_text, slabs_then, stopped}
+use Rattle.mesh_rounds.proofs.AllRounds.{all_slabs, at_end, broke, found_all, found_none, parts_text, slabs_then, stopped}
 use Rattle.mesh_rounds.proofs.lines.put_lines.Goals as goal
-
-both : (a b s : ℕ) → a ≤ s → b ≡ s → b ≤ a → a ≡ s
-both a b s h e k = omega arith
 
 pub loop-reached-init : goal.loop-reached-init
 loop-reached-init g c = record {
@@ -23,10 +21,7 @@ loop-reached-init g c = record {
   faults = refl;
   is_open = c.requires.is_open;
   name = refl;
-  tried = refl;
-  input = refl;
-  others = λ p ne. refl;
-  held = λ n. refl;
+  apart = same_port _ _ _ _ _ _;
 }
 
 pub returns-in_default-clause-part : goal.returns-in_default-clause-part
@@ -61,21 +56,18 @@ loop-reached-preserved g c =
       faults = search rules;
       is_open = e.is_open;
       name = e.name ∙ i.name;
-      tried = e.tried ∙ i.tried;
-      input = e.input ∙ i.input;
-      others = λ p ne. e.others p ne ∙ i.others p ne;
-      held = λ k. e.held k ∙ i.held k;
+      apart = then_port i.apart e.apart;
     }
 
 pub returns-clause-all : goal.returns-clause-all
 returns-clause-all g c =
     let s = c.args.source.now in
-    let end : c.loop-reached.reached.first ≡ slabs s.field.dims s.slab = both c.loop-reached.reached.first _ (slabs s.field.dims s.slab) c.loop-reached.invariant.reached.within c.slabs-slabs.ensures.slabs c.loop-reached-test.false in
+    let end : c.loop-reached.reached.first ≡ slabs s.field.dims s.slab = at_end c.loop-reached.reached.first _ (slabs s.field.dims s.slab) c.loop-reached.invariant.reached.within c.slabs-slabs.ensures.slabs c.loop-reached-test.false in
     subst (λ (t : List ℕ). Appends (g.D.Desk.ports c.args.desk.now c.args.port).text (g.D.Desk.ports c.loop-reached.desk c.args.port).text t)
     (ap (λ k. flat_map (slab_lines c.args.lines s) (range_with_len 0 k)) end ∙ all_slabs c.args.lines s c.slabs-slabs.ensures.size) c.loop-reached.invariant.text
 
 pub returns-clause-found : goal.returns-clause-found
 returns-clause-found g c =
     let s = c.args.source.now in
-    let end : c.loop-reached.reached.first ≡ slabs s.field.dims s.slab = both c.loop-reached.reached.first _ (slabs s.field.dims s.slab) c.loop-reached.invariant.reached.within c.slabs-slabs.ensures.slabs c.loop-reached-test.false in
+    let end : c.loop-reached.reached.first ≡ slabs s.field.dims s.slab = at_end c.loop-reached.reached.first _ (slabs s.field.dims s.slab) c.loop-reached.invariant.reached.within c.slabs-slabs.ensures.slabs c.loop-reached-test.false in
     found_all c.args.lines s c.loop-reached.reached.found c.slabs-slabs.ensures.size (c.loop-reached.invariant.reached.found ∙ ap (extremes_to c.args.lines s) end)

@@ -1,8 +1,8 @@
-use Rattle.std.proofs.Common.{◌≡◌, ◌≢◌, ◌-◌, ◌≤◌, ℕ, List, true}
+use Rattle.std.proofs.Common.{◌≡◌, ◌-◌, ◌≤◌, true}
 use Rattle.std.specs.Prelude.{flat_map}
 use Rattle.std.specs.List.{range_with_len}
 use Rattle.std.specs.Io.KnownBytes.{Appends}
-use Rattle.formats.specs.declared.Port.{Port}
+use Rattle.st_base.specs.Frames.{OnlyPort}
 use Rattle.definitions.specs.Layout.{slabs}
 use Rattle.mesh_rounds.specs.Rounds.{IsReached}
 use Rattle.slab_emit.specs.Sources.{slab_lines}
@@ -16,10 +16,7 @@ invariant-loop-reached g l = record {
   faults : (g.D.Desk.ports l.desk l.port).faults ≡ (g.D.Desk.ports l.initial.desk l.port).faults;
   is_open : (g.D.Desk.ports l.desk l.port).is_open ≡ true;
   name : (g.D.Desk.ports l.desk l.port).name ≡ (g.D.Desk.ports l.initial.desk l.port).name;
-  tried : g.D.Desk.tried l.desk ≡ g.D.Desk.tried l.initial.desk;
-  input : g.D.Desk.input l.desk ≡ g.D.Desk.input l.initial.desk;
-  others : (p : Port) → p ≢ l.port → g.D.Desk.ports l.desk p ≡ g.D.Desk.ports l.initial.desk p;
-  held : (n : List ℕ) → g.D.Desk.held l.desk n ≡ g.D.Desk.held l.initial.desk n;
+  apart : OnlyPort g.D.Desk l.port l.initial.desk l.desk;
 }
 
 abbrev pub decreases-loop-reached : goal.decreases-loop-reached

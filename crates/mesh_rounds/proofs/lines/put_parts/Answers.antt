@@ -1,6 +1,7 @@
-use Rattle.std.proofs.Common.{rules, ◌≡◌, ℕ, List, take, get_or, subst, sym, ap, ◌∙◌}
+use Rattle.std.proofs.Common.{rules, ℕ, List, take, get_or, subst, ap, ◌∙◌}
 use Rattle.std.proofs.KnownBytes.{Appends-trans}
 use Rattle.std.specs.Io.KnownBytes.{Appends}
+use Rattle.st_base.proofs.Frames.{then_port}
 use Rattle.mesh_rounds.specs.Rounds.{text_of}
 use Rattle.mesh_rounds.proofs.AllRounds.{part_broke, text_more}
 use Rattle.st_base.specs.Desk.{AppendsPart}
@@ -25,8 +26,5 @@ loop-n-preserved g c =
       faults = search rules;
       is_open = e.is_open;
       name = e.name ∙ i.name;
-      tried = e.tried ∙ i.tried;
-      input = e.input ∙ i.input;
-      others = λ p ne. e.others p ne ∙ i.others p ne;
-      held = λ k. e.held k ∙ i.held k;
+      apart = then_port i.apart e.apart;
     }

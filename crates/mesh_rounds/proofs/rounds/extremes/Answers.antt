@@ -1,12 +1,9 @@
-use Rattle.std.proofs.Common.{◌≡◌, ◌≤◌, ℕ, ◌∙◌, ap, arith}
+use Rattle.std.proofs.Common.{◌≡◌, ◌∙◌, ap, arith}
 use Rattle.definitions.specs.Layout.{slabs}
 use Rattle.slab_emit.specs.declared.Lines.TheVariants.{Angles}
 use Rattle.mesh_rounds.specs.Rounds.{extremes_to}
-use Rattle.mesh_rounds.proofs.AllRounds.{found_all, found_none}
+use Rattle.mesh_rounds.proofs.AllRounds.{at_end, found_all, found_none}
 use Rattle.mesh_rounds.proofs.rounds.extremes.Goals as goal
-
-both : (a b s : ℕ) → a ≤ s → b ≡ s → b ≤ a → a ≡ s
-both a b s h e k = omega arith
 
 pub loop-reached-init : goal.loop-reached-init
 loop-reached-init g c = record { reached = record { within = omega arith; found = found_none Angles c.args.source.now; fractions = λ x e. (let q = e in cc) }; crew = omega arith }
@@ -17,5 +14,5 @@ loop-reached-preserved g c = record { reached = c.in-Ok.ensures.reached; crew = 
 pub returns : goal.returns
 returns g c =
     let s = c.args.source.now in
-    let end : c.loop-reached.reached.first ≡ slabs s.field.dims s.slab = both c.loop-reached.reached.first _ (slabs s.field.dims s.slab) c.loop-reached.invariant.reached.within c.slabs-slabs.ensures.slabs c.loop-reached-test.false in
+    let end : c.loop-reached.reached.first ≡ slabs s.field.dims s.slab = at_end c.loop-reached.reached.first _ (slabs s.field.dims s.slab) c.loop-reached.invariant.reached.within c.slabs-slabs.ensures.slabs c.loop-reached-test.false in
     found_all Angles s c.loop-reached.reached.found c.slabs-slabs.ensures.size (c.loop-reached.invariant.reached.found ∙ ap (extremes_to Angles s) end)

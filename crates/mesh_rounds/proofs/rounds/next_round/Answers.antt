@@ -1,8 +1,7 @@
-use Rattle.std.proofs.Common.{rules, ◌≡◌, ◌+◌, ◌-◌, ◌*◌, ◌<◌, ◌≤◌, ℕ, List, All, ap, arith, length, min, subst, sym, ◌∙◌}
+use Rattle.std.proofs.Common.{rules, ◌≡◌, ◌+◌, ◌-◌, ◌*◌, ◌<◌, ◌≤◌, ℕ, All, ap, arith, length, min, subst, sym, ◌∙◌}
 use Rattle.std.specs.Option.{ForSome}
 use Rattle.definitions.specs.Layout.{slabs}
 use Rattle.dihedral.specs.Fractions.{AreFractions}
-use Rattle.slab_emit.specs.declared.Part.{Part}
 use Rattle.slab_emit.specs.Parts.{AreParts}
 use Rattle.mesh_rounds.specs.Rounds.{extremes_to}
 use Rattle.mesh_rounds.proofs.rounds.next_round.Goals as goal

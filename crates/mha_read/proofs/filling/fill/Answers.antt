@@ -2,6 +2,7 @@ use Rattle.std.proofs.Common.{rules, ◌≡◌, ◌+◌, ◌++◌, List, ℕ, ta
 use Rattle.std.proofs.Math.Seq.{take-add}
 use Rattle.std.proofs.KnownBytes.{Consumes-trans}
 use Rattle.std.specs.Io.KnownBytes.{Consumes}
+use Rattle.st_base.proofs.Frames.{then_input}
 use Rattle.mha_read.proofs.filling.fill.Goals as goal
 
 -- what was taken before, and then the bytes behind it
@@ -14,9 +15,7 @@ pub loop-preserved : goal.loop-preserved
 loop-preserved g c = record {
   is_open = search rules;
   faults = search rules;
-  ports = search rules;
-  tried = search rules;
-  held = search rules;
+  apart = then_input c.loop.invariant.apart c.in-Ok.ensures.apart;
   turns = search rules;
   within = search rules;
   taken = taken_more _ _ _ _ _ _ _ c.loop.invariant.taken c.in-Ok.ensures.bytes c.read_at.ensures.front;

@@ -1,6 +1,7 @@
-use Rattle.std.proofs.Common.{◌==◌, length, arith, sym, eq-eqb}
+use Rattle.std.proofs.Common.{◌==◌, ◌∙◌, ap, length, arith, sym, eq-eqb}
 use Rattle.std.proofs.lemmas.List.Sums.{position_or_len_is}
-use Rattle.mha_read.proofs.ValueWords.{any_below}
+use Rattle.std.proofs.lemmas.List.{get_or_default}
+use Rattle.std.proofs.lemmas.List.Folds.{list_any_none}
 use Rattle.mha_read.proofs.meaning.place_of_equals.Goals as goal
 
 pub returns-then-byte-eq61-clause-value : goal.returns-then-byte-eq61-clause-value
@@ -11,6 +12,5 @@ returns-clause-value c = sym (position_or_len_is (λ b. b == 61) c.args.line.now
 
 pub returns-clause-found : goal.returns-clause-found
 returns-clause-found c = λ any.
-    let here = any_below (λ b. b == 61) c.args.line.now any in
-    let all = position_or_len_is (λ b. b == 61) c.args.line.now (length c.args.line.now) 0 (omega arith) (λ k lt. c.loop-i.invariant k (omega arith)) (λ lt. absurd (omega arith)) in
-    absurd (omega (arith, here, all))
+    let none = list_any_none (λ b. b == 61) c.args.line.now (λ k d lt. ap (λ b. b == 61) (get_or_default c.args.line.now k d 0 lt) ∙ c.loop-i.invariant k (omega arith)) in
+    cc

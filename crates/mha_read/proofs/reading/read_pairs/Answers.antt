@@ -1,4 +1,5 @@
 use Rattle.std.proofs.Common.{rules, arith}
+use Rattle.st_base.proofs.Frames.{then_input}
 use Rattle.mha_read.proofs.HeadSearch.{goes_on, bad_line, data_line, too_long, refused}
 use Rattle.mha_read.proofs.LinesTaken.{all_lines}
 use Rattle.mha_read.proofs.reading.read_pairs.Goals as goal
@@ -24,9 +25,7 @@ pub loop-preserved : goal.loop-preserved
 loop-preserved g c = record {
   is_open = search rules;
   faults = search rules;
-  ports = search rules;
-  tried = search rules;
-  held = search rules;
+  apart = then_input c.loop.invariant.apart c.in-Ok.ensures.apart;
   turns = search rules;
   within = search rules;
   read = λ text e.

@@ -1,5 +1,6 @@
-use Rattle.std.proofs.Common.{rules, ◌∙◌}
+use Rattle.std.proofs.Common.{rules}
 use Rattle.node_ele_write.proofs.Growing.{appends_trans, take_more}
+use Rattle.st_base.proofs.Frames.{then_port}
 use Rattle.node_ele_write.proofs.put.put_all.Goals as goal
 
 pub loop-preserved : goal.loop-preserved
@@ -10,8 +11,5 @@ loop-preserved g c = record {
   faults = search rules;
   is_open = search rules;
   name = search rules;
-  tried = search rules;
-  input = search rules;
-  others = λ p ne. c.in-Ok.ensures.others p ne ∙ c.loop.invariant.others p ne;
-  held = λ n. c.in-Ok.ensures.held n ∙ c.loop.invariant.held n;
+  apart = then_port c.loop.invariant.apart c.in-Ok.ensures.apart;
 }

@@ -1,6 +1,6 @@
-use Rattle.std.proofs.Common.{◌≡◌, ◌≢◌, ◌≤◌, ℕ, List, length, take, true}
+use Rattle.std.proofs.Common.{◌≡◌, ◌≤◌, length, take, true}
 use Rattle.std.specs.Io.KnownBytes.{Appends}
-use Rattle.formats.specs.declared.Port.{Port}
+use Rattle.st_base.specs.Frames.{OnlyPort}
 use Rattle.node_ele_write.proofs.put.put_all.Given as goal
 
 abbrev pub invariant-loop : goal.invariant-loop
@@ -11,8 +11,5 @@ invariant-loop g l = record {
   faults : (g.D.Desk.ports l.desk l.port).faults ≡ (g.D.Desk.ports l.initial.desk l.port).faults;
   is_open : (g.D.Desk.ports l.desk l.port).is_open ≡ true;
   name : (g.D.Desk.ports l.desk l.port).name ≡ (g.D.Desk.ports l.initial.desk l.port).name;
-  tried : g.D.Desk.tried l.desk ≡ g.D.Desk.tried l.initial.desk;
-  input : g.D.Desk.input l.desk ≡ g.D.Desk.input l.initial.desk;
-  others : (p : Port) → p ≢ l.port → g.D.Desk.ports l.desk p ≡ g.D.Desk.ports l.initial.desk p;
-  held : (n : List ℕ) → g.D.Desk.held l.desk n ≡ g.D.Desk.held l.initial.desk n;
+  apart : OnlyPort g.D.Desk l.port l.initial.desk l.desk;
 }

@@ -1,8 +1,9 @@
-use Rattle.std.proofs.Common.{rules, ◌≡◌, ◌<◌, ◌≤◌, ◌+◌, ◌++◌, ℕ, All, arith, length, get_or, take, drop, subst, sym, ap, ◌∙◌}
+use Rattle.std.proofs.Common.{rules, ◌≡◌, arith, length, subst, sym, ap, ◌∙◌}
 use Rattle.list_words.specs.Words.{EachOnce}
 use Rattle.slab_claims.specs.Seats.{DrawnValue}
 use Rattle.slab_emit.specs.Workers.{FitPlaces, IsFilled}
-use Rattle.slab_emit.proofs.Placing.{fit_none, stands, written}
+use Rattle.crews.proofs.Workers.{written}
+use Rattle.slab_emit.proofs.Placing.{fit_none, stands}
 use Rattle.slab_emit.proofs.round.emit.Goals as goal
 
 pub gather-seat-requires-clause-len : goal.gather-seat-requires-clause-len

@@ -1,4 +1,4 @@
-use Rattle.std.proofs.Common.{◌≡◌, ◌⊎◌, ◌+◌, ◌++◌, ◌∷◌, ◌||◌, [], ℕ, List, All, true, length, ⊎_elim, ap, subst, sym, ◌∙◌, Option, Some, arith}
+use Rattle.std.proofs.Common.{◌≡◌, ◌+◌, ◌++◌, ◌||◌, List, All, true, ⊎_elim, ap, subst, sym, ◌∙◌, Option, Some, arith}
 use Rattle.std.specs.Option.{option_to_list}
 use Rattle.std.proofs.lemmas.List.Elements.{All-pop}
 use Rattle.std.proofs.lemmas.List.Sums.{sum_by_push}
@@ -8,7 +8,7 @@ use Rattle.list_words.proofs.Lists.{has_append}
 use Rattle.list_words.proofs.Tests.{either_true}
 use Rattle.slab_claims.specs.Seats.{SeatValue}
 use Rattle.slab_emit.specs.declared.worker.Worker.{Worker}
-use Rattle.slab_emit.specs.Workers.{HasMade, IsFilled, IsFinished, shares_of}
+use Rattle.slab_emit.specs.Workers.{HasMade, IsFinished, shares_of}
 use Rattle.slab_emit.proofs.round.gather.Goals as goal
 
 -- what holds of all workers holds of the last of them

@@ -1,4 +1,4 @@
-use Rattle.std.proofs.Common.{◌≡◌, ◌⊎◌, inl, inr, ℕ, List, [], ◌∷◌, ◌++◌, true, false, true≢false, ◌<◌, IfSome, length, refl, subst, sym, ap, ◌∙◌, ⊎_elim, map, Option}
+use Rattle.std.proofs.Common.{◌≡◌, inl, inr, ℕ, [], ◌∷◌, ◌++◌, true, ◌<◌, IfSome, length, refl, subst, sym, ap, ◌∙◌, ⊎_elim, Option}
 use Rattle.std.specs.Option.{option_to_list}
 use Rattle.std.proofs.lemmas.List.{length-set, map-append}
 use Rattle.std.proofs.lemmas.List.Elements.{All-pop}

@@ -3,7 +3,8 @@ use Rattle.std.proofs.lemmas.List.{map-append}
 use Rattle.slab_claims.specs.Seats.{SeatValue}
 use Rattle.slab_emit.specs.declared.worker.Made.{Made}
 use Rattle.slab_emit.specs.Workers.{IsMade, numbers_of}
-use Rattle.slab_emit.proofs.Drawing.{all_more, follows}
+use Rattle.std.proofs.lemmas.List.Elements.{All-push}
+use Rattle.slab_emit.proofs.Drawing.{follows}
 use Rattle.slab_emit.proofs.worker.run_worker.Goals as goal
 
 pub push_reserved-requires : goal.push_reserved-requires
@@ -51,10 +52,10 @@ loop-at-preserved g c =
           ∙ sym (ap (λ (s : SeatValue). s.drawn) e);
       right =
           subst (All (IsMade c.args.lines c.args.source.now c.args.first)) (sym items)
-          (all_more (IsMade c.args.lines c.args.source.now c.args.first) c.loop-at.worker.made.items c.made_of-made.result i.right c.made_of-made.ensures.made);
+          (All-push (IsMade c.args.lines c.args.source.now c.args.first) c.loop-at.worker.made.items c.made_of-made.result i.right c.made_of-made.ensures.made);
       under =
           subst (All (λ m. m.at < c.args.claims.now.slabs)) (sym items)
-          (all_more (λ m. m.at < c.args.claims.now.slabs) c.loop-at.worker.made.items c.made_of-made.result i.under (subst (λ k. k < c.args.claims.now.slabs) (sym at) slabs));
+          (All-push (λ m. m.at < c.args.claims.now.slabs) c.loop-at.worker.made.items c.made_of-made.result i.under (subst (λ k. k < c.args.claims.now.slabs) (sym at) slabs));
       room = (let r = i.room in let p = c.push_reserved.ensures.capacity in omega arith);
       few = (let f = i.few in omega arith);
       below = omega arith;

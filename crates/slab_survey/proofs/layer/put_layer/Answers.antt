@@ -26,7 +26,7 @@ put_row-requires-clause-seat g c = ap (λ (s : CellSeatValue). s.of) c.loop-j.in
 pub put_row-requires-clause-room : goal.put_row-requires-clause-room
 put_row-requires-clause-room g c =
     let d = c.args.field.now.dims in
-    room_left _ _ c.loop-j.j (row_len d.nx c.args.h) (row_len d.ny c.args.h) (layer_len d c.args.h) _ c.loop-j.invariant.1 (subst (λ (e : Dims). c.loop-j.j < row_len e.ny c.args.h) c.dims-dims.ensures.value c.loop-j-test.true) (layer_length d c.args.h) c.requires.room
+    room_left _ _ c.loop-j.j (row_len d.nx c.args.h) (row_len d.ny c.args.h) (layer_len d c.args.h) _ c.loop-j.invariant.1 (subst (λ (n : ℕ). c.loop-j.j < n) (c.rows-j-end.ensures.rows ∙ ap (λ (e : Dims). row_len e.ny c.args.h) c.dims.ensures.value) c.loop-j-test.true) (layer_length d c.args.h) c.requires.room
 
 pub loop-j-init : goal.loop-j-init
 loop-j-init g c =
@@ -46,15 +46,12 @@ loop-j-preserved g c =
     sums : (now count first j w : ℕ) → count ≡ first + j * w → now ≡ count + w → now ≡ first + (j + 1) * w
     sums now count first j w a b = omega arith
 
-ended : (d : Dims) (h j : ℕ) (e : Dims) → e ≡ d → row_len e.ny h ≤ j → j ≤ row_len e.ny h → j * row_len d.nx h ≡ layer_len d h
-ended d h j e is past within = all_rows d h j (subst (λ (b : Dims). row_len b.ny h ≤ j) is past) (subst (λ (b : Dims). j ≤ row_len b.ny h) is within)
-
 pub returns-clause-put : goal.returns-clause-put
 returns-clause-put g c =
     let d = c.args.field.now.dims in
-    put_same _ _ _ _ _ _ refl (ap (λ (n : ℕ). layer_start d c.args.h + n) (ended d c.args.h c.loop-j.j c.dims-dims.result c.dims-dims.ensures.value c.loop-j-test.false c.loop-j.auto.j-end)) c.loop-j.invariant.0
+    put_same _ _ _ _ _ _ refl (ap (λ (n : ℕ). layer_start d c.args.h + n) (all_rows d c.args.h c.loop-j.j c.rows-j-end.result (c.rows-j-end.ensures.rows ∙ ap (λ (e : Dims). row_len e.ny c.args.h) c.dims.ensures.value) c.loop-j-test.false c.loop-j.auto.j-end)) c.loop-j.invariant.0
 
 pub returns-clause-count : goal.returns-clause-count
 returns-clause-count g c =
     let d = c.args.field.now.dims in
-    c.loop-j.invariant.1 ∙ ap (λ (n : ℕ). g.L.Ledger.count c.args.ledger.now + n) (ended d c.args.h c.loop-j.j c.dims-dims.result c.dims-dims.ensures.value c.loop-j-test.false c.loop-j.auto.j-end)
+    c.loop-j.invariant.1 ∙ ap (λ (n : ℕ). g.L.Ledger.count c.args.ledger.now + n) (all_rows d c.args.h c.loop-j.j c.rows-j-end.result (c.rows-j-end.ensures.rows ∙ ap (λ (e : Dims). row_len e.ny c.args.h) c.dims.ensures.value) c.loop-j-test.false c.loop-j.auto.j-end)

@@ -1,5 +1,4 @@
-use Rattle.std.proofs.Common.{◌≡◌, ℕ, ◌+◌, arith, sym, ◌∙◌, ap, subst, List, [], ◌++◌, append-nil}
-use Rattle.definitions.specs.declared.Place.{Place}
+use Rattle.std.proofs.Common.{ℕ, ◌+◌, arith, sym, ◌∙◌, ap, subst, List, [], ◌++◌, append-nil}
 use Rattle.definitions.specs.declared.Extreme.{Extreme}
 use Rattle.definitions.specs.Angles.{angles_of, extremes_of}
 use Rattle.dihedral.specs.TetAngles.{six_angles}

@@ -7,7 +7,7 @@ use Rattle.mesh_lists.specs.Parts.{keys_of_vertex}
 use Rattle.mesh_lists.proofs.Layers.{layer_used}
 use Rattle.mesh_lists.proofs.LowestNodes.{vertex_without}
 use Rattle.slab_texts.specs.Texts.{Adds, AreAmong, AreMeasuredIn}
-use Rattle.slab_texts.proofs.Numbers.{numbers_layers}
+use Rattle.mesh_lists.proofs.Layers.{numbers_layers}
 use Rattle.slab_texts.proofs.Pieces.{all_among, none}
 use Rattle.slab_texts.proofs.tetrahedra.push_from.Goals as goal
 

@@ -1,7 +1,7 @@
 use Rattle.std.proofs.Common.{◌≡◌, ◌++◌, ◌≤◌, ap, arith, sym, subst, ◌∙◌, ℕ, List, All, length}
 use Rattle.mesh_lists.specs.Parts.{numbered_from}
 use Rattle.slab_texts.specs.Texts.{AreAmong, AreMeasuredIn}
-use Rattle.slab_texts.proofs.Numbers.{numbers_layers}
+use Rattle.mesh_lists.proofs.Layers.{numbers_layers}
 use Rattle.slab_texts.proofs.Pieces.{all_among, few_numbered}
 use Rattle.slab_texts.proofs.tetrahedra.push_pieces.Goals as goal
 

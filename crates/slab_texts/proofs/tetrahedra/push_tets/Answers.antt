@@ -5,13 +5,13 @@ use Rattle.definitions.specs.declared.Dims.{Dims}
 use Rattle.definitions.specs.declared.Vertex.{Vertex}
 use Rattle.definitions.specs.Lattice.{InDomain, IsDims, id, vertex_at, vertices}
 use Rattle.mesh_lists.specs.Parts.{numbered, numbered_from}
-use Rattle.mesh_lists.proofs.NextVertex.{next_has_id}
+use Rattle.bcc_lattice.proofs.NextVertex.{next_has_id}
 use Rattle.mesh_lists.specs.Layers.{HoldLayers}
 use Rattle.slab_texts.specs.Nodes.{pieces_at}
 use Rattle.slab_texts.specs.Texts.{Adds, IsMeasured}
 use Rattle.slab_texts.proofs.Measured.{at_id}
 use Rattle.slab_texts.proofs.Pieces.{ids_more, more, no_ids, none}
-use Rattle.slab_texts.proofs.Walks.{in_walk, small_id}
+use Rattle.mesh_lists.proofs.Walks.{in_walk, small_id}
 use Rattle.slab_texts.proofs.tetrahedra.push_tets.Goals as goal
 
 pub push_from-requires-clause-domain : goal.push_from-requires-clause-domain

@@ -9,14 +9,15 @@ use Rattle.definitions.specs.Lattice.{IsDims, layers, vertex_at, vertices}
 use Rattle.definitions.specs.Layout.{layer_start}
 use Rattle.definitions.specs.Mesh.{node_place}
 use Rattle.definitions.specs.Values.{Field}
-use Rattle.mesh_lists.specs.Parts.{mesh_of, numbered}
+use Rattle.mesh_lists.specs.Parts.{keys_of_ids, mesh_of, numbered}
 use Rattle.vertex_numbers.specs.Numbering.{nodes_before}
+use Rattle.vertex_numbers.proofs.LayerIds.{first_of_layer}
 use Rattle.vertex_numbers.proofs.LayerStarts.{counts_len}
-use Rattle.slab_texts.specs.Nodes.{AreInRow, HasNodes, keys_of_ids}
+use Rattle.slab_texts.specs.Nodes.{AreInRow, HasNodes}
 use Rattle.slab_texts.specs.Spans.{span_angles, span_tet_lines, span_tets, tets_below}
 use Rattle.slab_texts.specs.Texts.{IsMeasured, lines_if}
 use Rattle.slab_texts.proofs.Counts.{tets_few, tets_to}
-use Rattle.slab_texts.proofs.Places.{first_of_layer, places_in_row}
+use Rattle.slab_texts.proofs.Places.{places_in_row}
 use Rattle.slab_texts.proofs.SpanIds.{AreIds, end_within, extremes_of_none, holds, mid_after, mid_before, mid_within, pieces_are, room}
 use Rattle.slab_texts.proofs.text.tets_of_layers.Goals as goal
 
@@ -34,10 +35,8 @@ ids d f e from to top start mid end same equal some within t s m u = record {
   end_is = u ∙ ap (λ (z : Dims). layer_start z top) (sym same);
 }
 
-pub begin-requires-clause-layers : goal.begin-requires-clause-layers
-begin-requires-clause-layers c =
-    ap layers c.dims-dims.ensures.dims
-    ∙ sym (ap length c.requires.offsets ∙ counts_len c.args.states.now.dims c.args.states.now.states)
+pub begin-requires-clause-within : goal.begin-requires-clause-within
+begin-requires-clause-within c = subst (λ n. c.args.to ≤ n) (sym (ap length c.requires.offsets ∙ counts_len c.args.states.now.dims c.args.states.now.states)) c.requires.within
 
 -- the places of their nodes and of those of the two layers above stand in a row
 span_row : (f : Field) (d : Dims) (ss : List State) (from to top start mid end first : ℕ) (places : List Place) → d ≡ f.dims → AreIds d from to top start mid end → first ≡ nodes_before f.dims ss start → places ≡ map (node_place f ss) (keys_of_ids f.dims ss start (end - start)) → AreInRow (mesh_of f ss).places first places
@@ -47,33 +46,33 @@ span_row f d ss from to top start mid end first places same i at stand =
     places_in_row f ss start end first places low within at stand
 
 pub push_tets-requires-clause-nodes : goal.push_tets-requires-clause-nodes
-push_tets-requires-clause-nodes c = subst (λ (d : Dims). HasNodes d c.args.states.now.states c.in-Ok.nodes) (sym c.requires.sizes) c.in-Ok.ensures.nodes
+push_tets-requires-clause-nodes c = subst (λ (d : Dims). HasNodes d c.args.states.now.states c.in_ok-nodes.nodes) (sym c.requires.sizes) c.in_ok-nodes.ensures.nodes
 
 pub push_tets-requires-clause-first : goal.push_tets-requires-clause-first
 push_tets-requires-clause-first c = λ lt.
     let d = c.args.states.now.dims in
-    let start : c.in-Ok.nodes.start ≡ layer_start d c.args.from = c.in-Ok.ensures.start ∙ ap (λ (e : Dims). layer_start e c.args.from) (sym c.requires.sizes) in
-    c.first_vertex-v.ensures ∙ first_of_layer d c.args.from (subst IsDims c.dims-dims.ensures.dims c.dims-dims.ensures.sizes) (below c.args.from c.args.to (layers d) c.requires.some c.requires.within) ∙ ap (vertex_at d) (sym start)
+    let start : c.in_ok-nodes.nodes.start ≡ layer_start d c.args.from = c.in_ok-nodes.ensures.start ∙ ap (λ (e : Dims). layer_start e c.args.from) (sym c.requires.sizes) in
+    c.first_vertex-v.ensures.vertex ∙ first_of_layer d c.args.from (subst IsDims c.dims-dims.ensures.dims c.dims-dims.ensures.sizes) (below c.args.from c.args.to (layers d) c.requires.some c.requires.within) ∙ ap (vertex_at d) (sym start)
 
 pub push_tets-requires-clause-some : goal.push_tets-requires-clause-some
 push_tets-requires-clause-some c =
-    mid_after c.args.states.now.dims c.args.from c.args.to c.min-top.result c.in-Ok.nodes.start c.ids_below.result c.in-Ok.nodes.end
-    (ids c.args.states.now.dims c.args.field.now.dims c.dims-dims.result c.args.from c.args.to _ _ _ _ c.requires.sizes c.dims-dims.ensures.dims c.requires.some c.requires.within c.min-top.ensures c.in-Ok.ensures.start c.ids_below.ensures.start c.in-Ok.ensures.end)
+    mid_after c.args.states.now.dims c.args.from c.args.to c.min-top.result c.in_ok-nodes.nodes.start c.ids_below-end.result c.in_ok-nodes.nodes.end
+    (ids c.args.states.now.dims c.args.field.now.dims c.dims-dims.result c.args.from c.args.to _ _ _ _ c.requires.sizes c.dims-dims.ensures.dims c.requires.some c.requires.within (c.min-top.ensures ∙ ap (min (c.args.to + 2)) c.layers.ensures.layers) c.in_ok-nodes.ensures.start c.ids_below-end.ensures.start c.in_ok-nodes.ensures.end)
 
 pub push_tets-requires-clause-within : goal.push_tets-requires-clause-within
 push_tets-requires-clause-within c =
-    mid_within c.args.states.now.dims c.args.from c.args.to c.min-top.result c.in-Ok.nodes.start c.ids_below.result c.in-Ok.nodes.end
-    (ids c.args.states.now.dims c.args.field.now.dims c.dims-dims.result c.args.from c.args.to _ _ _ _ c.requires.sizes c.dims-dims.ensures.dims c.requires.some c.requires.within c.min-top.ensures c.in-Ok.ensures.start c.ids_below.ensures.start c.in-Ok.ensures.end)
+    mid_within c.args.states.now.dims c.args.from c.args.to c.min-top.result c.in_ok-nodes.nodes.start c.ids_below-end.result c.in_ok-nodes.nodes.end
+    (ids c.args.states.now.dims c.args.field.now.dims c.dims-dims.result c.args.from c.args.to _ _ _ _ c.requires.sizes c.dims-dims.ensures.dims c.requires.some c.requires.within (c.min-top.ensures ∙ ap (min (c.args.to + 2)) c.layers.ensures.layers) c.in_ok-nodes.ensures.start c.ids_below-end.ensures.start c.in_ok-nodes.ensures.end)
 
 pub push_tets-requires-clause-hold : goal.push_tets-requires-clause-hold
 push_tets-requires-clause-hold c =
-    holds c.args.states.now.dims c.args.from c.args.to c.min-top.result c.in-Ok.nodes.start c.ids_below.result c.in-Ok.nodes.end
-    (ids c.args.states.now.dims c.args.field.now.dims c.dims-dims.result c.args.from c.args.to _ _ _ _ c.requires.sizes c.dims-dims.ensures.dims c.requires.some c.requires.within c.min-top.ensures c.in-Ok.ensures.start c.ids_below.ensures.start c.in-Ok.ensures.end)
+    holds c.args.states.now.dims c.args.from c.args.to c.min-top.result c.in_ok-nodes.nodes.start c.ids_below-end.result c.in_ok-nodes.nodes.end
+    (ids c.args.states.now.dims c.args.field.now.dims c.dims-dims.result c.args.from c.args.to _ _ _ _ c.requires.sizes c.dims-dims.ensures.dims c.requires.some c.requires.within (c.min-top.ensures ∙ ap (min (c.args.to + 2)) c.layers.ensures.layers) c.in_ok-nodes.ensures.start c.ids_below-end.ensures.start c.in_ok-nodes.ensures.end)
 
 pub push_tets-requires-clause-high : goal.push_tets-requires-clause-high
 push_tets-requires-clause-high c =
-    mid_before c.args.states.now.dims c.args.from c.args.to c.min-top.result c.in-Ok.nodes.start c.ids_below.result c.in-Ok.nodes.end
-    (ids c.args.states.now.dims c.args.field.now.dims c.dims-dims.result c.args.from c.args.to _ _ _ _ c.requires.sizes c.dims-dims.ensures.dims c.requires.some c.requires.within c.min-top.ensures c.in-Ok.ensures.start c.ids_below.ensures.start c.in-Ok.ensures.end)
+    mid_before c.args.states.now.dims c.args.from c.args.to c.min-top.result c.in_ok-nodes.nodes.start c.ids_below-end.result c.in_ok-nodes.nodes.end
+    (ids c.args.states.now.dims c.args.field.now.dims c.dims-dims.result c.args.from c.args.to _ _ _ _ c.requires.sizes c.dims-dims.ensures.dims c.requires.some c.requires.within (c.min-top.ensures ∙ ap (min (c.args.to + 2)) c.layers.ensures.layers) c.in_ok-nodes.ensures.start c.ids_below-end.ensures.start c.in_ok-nodes.ensures.end)
 
 pub push_tets-requires-clause-room : goal.push_tets-requires-clause-room
 push_tets-requires-clause-room c =
@@ -81,8 +80,8 @@ push_tets-requires-clause-room c =
     let ss = c.args.states.now.states in
     let is = subst IsDims c.dims-dims.ensures.dims c.dims-dims.ensures.sizes in
     let le : c.args.from ≤ layers d = let a = c.requires.some in let b = c.requires.within in omega arith in
-    room d c.args.from c.args.to c.min-top.result c.in-Ok.nodes.start c.ids_below.result c.in-Ok.nodes.end
-    (ids d c.args.field.now.dims c.dims-dims.result c.args.from c.args.to _ _ _ _ c.requires.sizes c.dims-dims.ensures.dims c.requires.some c.requires.within c.min-top.ensures c.in-Ok.ensures.start c.ids_below.ensures.start c.in-Ok.ensures.end)
+    room d c.args.from c.args.to c.min-top.result c.in_ok-nodes.nodes.start c.ids_below-end.result c.in_ok-nodes.nodes.end
+    (ids d c.args.field.now.dims c.dims-dims.result c.args.from c.args.to _ _ _ _ c.requires.sizes c.dims-dims.ensures.dims c.requires.some c.requires.within (c.min-top.ensures ∙ ap (min (c.args.to + 2)) c.layers.ensures.layers) c.in_ok-nodes.ensures.start c.ids_below-end.ensures.start c.in_ok-nodes.ensures.end)
     ss is c.in_ok-out.out.number (tets_below d ss c.args.from)
     (c.in_ok-out.ensures.number ∙ ap (λ counts. sum_by (λ c. c.tets) (take c.args.from counts)) c.requires.offsets ∙ tets_to d ss c.args.from le)
     (tets_few d ss is c.args.from le)
@@ -92,12 +91,12 @@ push_tets-requires-clause-measured c =
     let d = c.args.states.now.dims in
     let ss = c.args.states.now.states in
     let f = c.args.field.now in
-    let n = c.in-Ok.nodes in
-    let i = ids d f.dims c.dims-dims.result c.args.from c.args.to _ _ _ _ c.requires.sizes c.dims-dims.ensures.dims c.requires.some c.requires.within c.min-top.ensures c.in-Ok.ensures.start c.ids_below.ensures.start c.in-Ok.ensures.end in
-    let pieces = pieces_are d c.args.from c.args.to c.min-top.result n.start c.ids_below.result n.end i ss (subst IsDims c.dims-dims.ensures.dims c.dims-dims.ensures.sizes) in
+    let n = c.in_ok-nodes.nodes in
+    let i = ids d f.dims c.dims-dims.result c.args.from c.args.to _ _ _ _ c.requires.sizes c.dims-dims.ensures.dims c.requires.some c.requires.within (c.min-top.ensures ∙ ap (min (c.args.to + 2)) c.layers.ensures.layers) c.in_ok-nodes.ensures.start c.ids_below-end.ensures.start c.in_ok-nodes.ensures.end in
+    let pieces = pieces_are d c.args.from c.args.to c.min-top.result n.start c.ids_below-end.result n.end i ss (subst IsDims c.dims-dims.ensures.dims c.dims-dims.ensures.sizes) in
     record {
       all = (mesh_of f ss).places;
-      row = span_row f d ss c.args.from c.args.to c.min-top.result n.start c.ids_below.result n.end n.first n.places.items c.requires.sizes i c.in-Ok.ensures.nodes.first c.in-Ok.ensures.places;
+      row = span_row f d ss c.args.from c.args.to c.min-top.result n.start c.ids_below-end.result n.end n.first n.places.items c.requires.sizes i c.in_ok-nodes.ensures.nodes.first c.in_ok-nodes.ensures.places;
       measured = subst (λ (ps : List (List ℕ)). All (IsMeasured (mesh_of f ss).places) (numbered d ss ps)) (sym pieces) c.requires.measured;
     }
 
@@ -107,13 +106,13 @@ returns-clause-text c =
     let d = c.args.states.now.dims in
     let ss = c.args.states.now.states in
     let f = c.args.field.now in
-    let n = c.in-Ok.nodes in
+    let n = c.in_ok-nodes.nodes in
     let le : c.args.from ≤ layers d = let a = c.requires.some in let b = c.requires.within in omega arith in
-    let i = ids d f.dims c.dims-dims.result c.args.from c.args.to _ _ _ _ c.requires.sizes c.dims-dims.ensures.dims c.requires.some c.requires.within c.min-top.ensures c.in-Ok.ensures.start c.ids_below.ensures.start c.in-Ok.ensures.end in
-    let row = span_row f d ss c.args.from c.args.to c.min-top.result n.start c.ids_below.result n.end n.first n.places.items c.requires.sizes i c.in-Ok.ensures.nodes.first c.in-Ok.ensures.places in
+    let i = ids d f.dims c.dims-dims.result c.args.from c.args.to _ _ _ _ c.requires.sizes c.dims-dims.ensures.dims c.requires.some c.requires.within (c.min-top.ensures ∙ ap (min (c.args.to + 2)) c.layers.ensures.layers) c.in_ok-nodes.ensures.start c.ids_below-end.ensures.start c.in_ok-nodes.ensures.end in
+    let row = span_row f d ss c.args.from c.args.to c.min-top.result n.start c.ids_below-end.result n.end n.first n.places.items c.requires.sizes i c.in_ok-nodes.ensures.nodes.first c.in_ok-nodes.ensures.places in
     let begun = c.in_ok-out.ensures in
     let number = begun.number ∙ ap (λ counts. sum_by (λ c. c.tets) (take c.args.from counts)) c.requires.offsets ∙ tets_to d ss c.args.from le in
-    let pieces = pieces_are d c.args.from c.args.to c.min-top.result n.start c.ids_below.result n.end i ss (subst IsDims c.dims-dims.ensures.dims c.dims-dims.ensures.sizes) in
+    let pieces = pieces_are d c.args.from c.args.to c.min-top.result n.start c.ids_below-end.result n.end i ss (subst IsDims c.dims-dims.ensures.dims c.dims-dims.ensures.sizes) in
     (c.in_ok-push_tets.ensures (mesh_of f ss).places row).text ∙ (λ t. begun.text t ++ lines_if (begun.writes t) (number t) (numbered d ss (pieces t)))
 
 pub returns-clause-extremes : goal.returns-clause-extremes
@@ -122,13 +121,13 @@ returns-clause-extremes c =
     let d = c.args.states.now.dims in
     let ss = c.args.states.now.states in
     let f = c.args.field.now in
-    let n = c.in-Ok.nodes in
+    let n = c.in_ok-nodes.nodes in
     let le : c.args.from ≤ layers d = let a = c.requires.some in let b = c.requires.within in omega arith in
-    let i = ids d f.dims c.dims-dims.result c.args.from c.args.to _ _ _ _ c.requires.sizes c.dims-dims.ensures.dims c.requires.some c.requires.within c.min-top.ensures c.in-Ok.ensures.start c.ids_below.ensures.start c.in-Ok.ensures.end in
-    let row = span_row f d ss c.args.from c.args.to c.min-top.result n.start c.ids_below.result n.end n.first n.places.items c.requires.sizes i c.in-Ok.ensures.nodes.first c.in-Ok.ensures.places in
+    let i = ids d f.dims c.dims-dims.result c.args.from c.args.to _ _ _ _ c.requires.sizes c.dims-dims.ensures.dims c.requires.some c.requires.within (c.min-top.ensures ∙ ap (min (c.args.to + 2)) c.layers.ensures.layers) c.in_ok-nodes.ensures.start c.ids_below-end.ensures.start c.in_ok-nodes.ensures.end in
+    let row = span_row f d ss c.args.from c.args.to c.min-top.result n.start c.ids_below-end.result n.end n.first n.places.items c.requires.sizes i c.in_ok-nodes.ensures.nodes.first c.in_ok-nodes.ensures.places in
     let begun = c.in_ok-out.ensures in
     let number = begun.number ∙ ap (λ counts. sum_by (λ c. c.tets) (take c.args.from counts)) c.requires.offsets ∙ tets_to d ss c.args.from le in
-    let pieces = pieces_are d c.args.from c.args.to c.min-top.result n.start c.ids_below.result n.end i ss (subst IsDims c.dims-dims.ensures.dims c.dims-dims.ensures.sizes) in
+    let pieces = pieces_are d c.args.from c.args.to c.min-top.result n.start c.ids_below-end.result n.end i ss (subst IsDims c.dims-dims.ensures.dims c.dims-dims.ensures.sizes) in
     c.found.ensures.value
     ∙ (c.in_ok-push_tets.ensures (mesh_of f ss).places row).angles [] (begun.angles ∙ extremes_of_none)
     ∙ (λ t. extremes_of (flat_map (angles_of (mesh_of f ss).places) (enumerate_from (number t) (numbered d ss (pieces t)))))

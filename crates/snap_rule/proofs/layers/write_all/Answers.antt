@@ -17,7 +17,7 @@ loop-h-init c =
 
 pub write_layer-at-requires-clause-room : goal.write_layer-at-requires-clause-room
 write_layer-at-requires-clause-room c =
-    let t : c.loop-h.h < layers c.args.field.now.dims = let e = c.layers_of-h-end.ensures.layers in let t = c.loop-h-test.true in omega arith in
+    let t : c.loop-h.h < layers c.args.field.now.dims = let e = c.layers-h-end.ensures.layers ∙ ap layers c.dims.ensures.value in let t = c.loop-h-test.true in omega arith in
     let w = layer_within c.args.field.now.dims c.loop-h.h t in
     let i = c.loop-h.invariant.0 in
     let same = c.loop-h.auto.out in
@@ -29,7 +29,7 @@ write_layer-at-requires-clause-room c =
 pub loop-h-preserved : goal.loop-h-preserved
 loop-h-preserved c =
     let d = c.args.field.now.dims in
-    let t : c.loop-h.h < layers d = let e = c.layers_of-h-end.ensures.layers in let t = c.loop-h-test.true in omega arith in
+    let t : c.loop-h.h < layers d = let e = c.layers-h-end.ensures.layers ∙ ap layers c.dims.ensures.value in let t = c.loop-h-test.true in omega arith in
     let g = below_grows d c.loop-h.h in (
       c.write_layer-at.ensures.end ∙ ap (λ m. m + layer_len d c.loop-h.h) c.loop-h.invariant.0 ∙ sym g,
       λ k h. ap (λ m. get_or c.write_layer-at.new.out m 0) (sym (zero-add k)) ∙ part_more (λ q. code (state_of c.args.field.now c.args.shares (vertex_at d q))) c.loop-h.out c.write_layer-at.new.out 0 (below_layer d c.loop-h.h) c.loop-h.at (layer_len d c.loop-h.h)
@@ -43,6 +43,6 @@ loop-h-preserved c =
 pub returns : goal.returns
 returns c =
     let d = c.args.field.now.dims in
-    let h : c.loop-h.h ≡ layers d = let e = c.layers_of-h-end.ensures.layers in omega arith in
+    let h : c.loop-h.h ≡ layers d = let e = c.layers-h-end.ensures.layers ∙ ap layers c.dims.ensures.value in omega arith in
     all_filled d (λ v. code (state_of c.args.field.now c.args.shares v)) c.loop-h.out (c.loop-h.auto.out ∙ c.requires)
     (λ k lt. c.loop-h.invariant.1 k (subst (λ n. k < n) (all_length d ∙ ap (below_layer d) (sym h)) lt))

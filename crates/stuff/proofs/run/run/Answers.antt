@@ -1,4 +1,4 @@
-use Rattle.std.proofs.Common.{◌≡◌, ◌∙◌, ap, sym, subst, [], ◌++◌, List, ℕ}
+use Rattle.std.proofs.Common.{◌≡◌, ◌∙◌, inl, inr, ap, sym, subst, [], ◌++◌, List, ℕ}
 use Rattle.command_line.specs.Grammar.{IsPlan, Command as Meaning, MakeDemo}
 use Rattle.command_words.specs.Commands.{meaning_of}
 use Rattle.command_words.proofs.Places.{one_command}
@@ -8,7 +8,7 @@ use Rattle.stuff.specs.Outputs.{has_files, file_name, all_names, output_names, I
 use Rattle.stuff.specs.Ports.{IsAtOutput, PortsEnd}
 use Rattle.stuff.specs.Writing.{GrowsAlong, with_names}
 use Rattle.stuff.specs.Ends.{HoldsInput}
-use Rattle.stuff.proofs.InputEndings.{at_output_words, bad_words, input_along, no_input, opened}
+use Rattle.stuff.proofs.InputEndings.{at_output_words, bad_words, demo_has_none, input_along, no_input, opened}
 use Rattle.stuff.proofs.PortEnds.{ends_along}
 use Rattle.stuff.proofs.TextsWritten.{demo_written, field_told_along, makes_volume, reads_file, told_along}
 use Rattle.stuff.proofs.Trying.{one_then, one_then_all, same_names}
@@ -43,7 +43,7 @@ returns-in-Ok-open_input-clause-ports g c = λ d r.
     let file = reads_file c.args.words.now c.in-Ok.command c.in-File.input c.word.result.now (sym c.source.ensures ∙ c.in-File.is) c.word.ensures in
     subst (λ (x : Meaning). PortsEnd g.D.Desk.ports c.work.result (has_files x) (file_name c.args.words.now x) (IsTextOf (told_input (g.D.Desk.held c.args.desk.now) c.args.words.now x) x) c.args.desk.now c.work.new.desk) (one_command c.args.words.now m d c.in-Ok.ensures.command r)
     (ends_along g.D.Desk.ports c.work.result (has_files m) (file_name c.args.words.now m) (IsTextOf (g.D.Desk.input c.open_input.new.self).left m) (IsTextOf (told_input (g.D.Desk.held c.args.desk.now) c.args.words.now m) m)
-    c.open_input.new.self c.args.desk.now c.work.new.desk (told_along (g.D.Desk.held c.args.desk.now) c.args.words.now c.word.result.now (g.D.Desk.input c.open_input.new.self).left m file c.in-Ok-open_input.ensures.told) c.in-Ok-open_input.ensures.ports c.work.ensures.ports)
+    c.open_input.new.self c.args.desk.now c.work.new.desk (told_along (g.D.Desk.held c.args.desk.now) c.args.words.now c.word.result.now (g.D.Desk.input c.open_input.new.self).left m file c.in-Ok-open_input.ensures.told) c.in-Ok-open_input.ensures.apart.ports c.work.ensures.ports)
 
 pub returns-in-Ok-open_input-clause-tried : goal.returns-in-Ok-open_input-clause-tried
 returns-in-Ok-open_input-clause-tried g c = λ d r.
@@ -80,7 +80,7 @@ pub returns-in-Phantom-clause-input : goal.returns-in-Phantom-clause-input
 returns-in-Phantom-clause-input g c =
     let p = makes_volume c.in-Ok.command c.in-Phantom.size c.in-Phantom.seed (sym c.source.ensures ∙ c.in-Phantom.is) in
     no_input c.make_demo.result c.args.words.now (g.D.Desk.held c.args.desk.now) (meaning_of c.in-Ok.command) c.in-Phantom.size c.in-Phantom.seed p.0 (g.D.Desk.input c.make_demo.new.desk) c.in-Ok.ensures.command p.1
-    c.make_demo.ensures.kind (ap (λ (s : InputState). s.faults) c.make_demo.ensures.input ∙ c.requires.start.input_faults)
+    c.make_demo.ensures.kind (ap (λ (s : InputState). s.faults) c.make_demo.ensures.apart.input ∙ c.requires.start.input_faults)
 
 pub returns-in-Phantom-clause-ports : goal.returns-in-Phantom-clause-ports
 returns-in-Phantom-clause-ports g c = λ d r.
@@ -96,19 +96,19 @@ pub returns-in-Phantom-clause-tried : goal.returns-in-Phantom-clause-tried
 returns-in-Phantom-clause-tried g c = λ d r.
     let p = makes_volume c.in-Ok.command c.in-Phantom.size c.in-Phantom.seed (sym c.source.ensures ∙ c.in-Phantom.is) in
     subst (λ (x : Meaning). GrowsAlong (all_names c.args.words.now x) (g.D.Desk.tried c.args.desk.now) (g.D.Desk.tried c.make_demo.new.desk)) (sym p.1 ∙ one_command c.args.words.now (meaning_of c.in-Ok.command) d c.in-Ok.ensures.command r)
-    (0, c.make_demo.ensures.tried ∙ same_names (g.D.Desk.tried c.args.desk.now))
+    (0, c.make_demo.ensures.apart.tried ∙ same_names (g.D.Desk.tried c.args.desk.now))
 
 pub returns-in-Phantom-clause-all_tried : goal.returns-in-Phantom-clause-all_tried
 returns-in-Phantom-clause-all_tried g c = λ done d r.
     let p = makes_volume c.in-Ok.command c.in-Phantom.size c.in-Phantom.seed (sym c.source.ensures ∙ c.in-Phantom.is) in
     subst (λ (x : Meaning). g.D.Desk.tried c.make_demo.new.desk ≡ with_names (g.D.Desk.tried c.args.desk.now) (all_names c.args.words.now x)) (sym p.1 ∙ one_command c.args.words.now (meaning_of c.in-Ok.command) d c.in-Ok.ensures.command r)
-    (c.make_demo.ensures.tried ∙ same_names (g.D.Desk.tried c.args.desk.now))
+    (c.make_demo.ensures.apart.tried ∙ same_names (g.D.Desk.tried c.args.desk.now))
 
 pub returns-in-Phantom-clause-none_tried : goal.returns-in-Phantom-clause-none_tried
 returns-in-Phantom-clause-none_tried g c = λ place e. absurd (subst IsAtOutput e c.make_demo.ensures.kind)
 
 pub returns-in-Phantom-clause-demo : goal.returns-in-Phantom-clause-demo
-returns-in-Phantom-clause-demo g c = λ size seed plan r. record { input_is = c.make_demo.ensures.input; kind = c.make_demo.ensures.kind; no_memory = c.make_demo.ensures.no_memory }
+returns-in-Phantom-clause-demo g c = λ size seed plan r. record { input_is = c.make_demo.ensures.apart.input; kind = c.make_demo.ensures.kind; no_memory = c.make_demo.ensures.no_memory }
 
 -- ---- the plan
 
@@ -147,3 +147,25 @@ returns-in-Phantom-clause-trace g c = λ d r.
 
 pub returns-in-Phantom-clause-untraced : goal.returns-in-Phantom-clause-untraced
 returns-in-Phantom-clause-untraced g c = λ place e. absurd (subst IsAtOutput e c.make_demo.ensures.kind)
+
+-- ---- what was read before any port was used
+
+pub returns-in-Err-clause-accepted : goal.returns-in-Err-clause-accepted
+returns-in-Err-clause-accepted g c = λ text s i. absurd (c.in-Err.ensures.place.unread i.command i.reads)
+
+pub returns-in-Ok-open_input-clause-accepted : goal.returns-in-Ok-open_input-clause-accepted
+returns-in-Ok-open_input-clause-accepted g c = λ text s i.
+    let m = meaning_of c.in-Ok.command in
+    let file = reads_file c.args.words.now c.in-Ok.command c.in-File.input c.word.result.now (sym c.source.ensures ∙ c.in-File.is) c.word.ensures in
+    elim (c.work.ensures.accepted text s (opened c.args.words.now (g.D.Desk.held c.args.desk.now) m c.word.result.now (g.D.Desk.input c.open_input.new.self).left c.in-Ok.ensures.command file c.in-Ok-open_input.ensures.told text s i)) [
+      | inl kept ↦ inl (λ p t. kept p t ∙ c.in-Ok-open_input.ensures.apart.ports p)
+      | inr read ↦ inr read
+    ]
+
+pub returns-in-Err-open_input-clause-accepted : goal.returns-in-Err-open_input-clause-accepted
+returns-in-Err-open_input-clause-accepted g c = λ text s i. inl (λ p t. c.in-Err-open_input.ensures.apart.ports p)
+
+pub returns-in-Phantom-clause-accepted : goal.returns-in-Phantom-clause-accepted
+returns-in-Phantom-clause-accepted g c = λ text s i.
+    let p = makes_volume c.in-Ok.command c.in-Phantom.size c.in-Phantom.seed (sym c.source.ensures ∙ c.in-Phantom.is) in
+    absurd (demo_has_none c.args.words.now (g.D.Desk.held c.args.desk.now) (meaning_of c.in-Ok.command) c.in-Phantom.size c.in-Phantom.seed p.0 c.in-Ok.ensures.command p.1 text s i)

@@ -3,6 +3,7 @@ use Rattle.command_line.specs.Grammar.{MakeDemo}
 use Rattle.st_base.specs.Desk.{InputState, PortState}
 use Rattle.stuff.specs.Inputs.{IsInput, told_input}
 use Rattle.stuff.specs.Outputs.{has_files, file_name, IsTextOf}
+use Rattle.stuff.specs.Ends.{Accepts}
 use Rattle.stuff.specs.Ports.{TellsFault}
 use Rattle.stuff.proofs.SoundMeshes.{made_bounded, made_sound}
 use Rattle.stuff.proofs.InputEndings.{outcome_comes, words_bad, bad_words_end, bad_or_read, done_or_no_memory}
@@ -15,7 +16,7 @@ returns-clause-bad_words g c = λ place.
 
 pub returns-clause-write_fault : goal.returns-clause-write_fault
 returns-clause-write_fault g c = λ port t.
-    subst (λ (s : PortState). TellsFault c.run-status.result port s) (sym (c.tell.ensures.others port t))
+    subst (λ (s : PortState). TellsFault c.run-status.result port s) (sym (c.tell.ensures.apart.others port t))
     (elim (bad_or_read c.run-status.result c.args.words.now c.run-status.ensures.words) [
       | inl bad ↦ subst (λ (s : PortState). TellsFault c.run-status.result port s) (sym (c.run-status.ensures.unread bad.0 bad.1 port))
           (tells_none g.D.Desk.ports c.run-status.result c.args.desk.now (λ p e. (let q = sym e ∙ bad.1 in cc)) (record { node = c.requires.node.faults; ele = c.requires.ele.faults; report = c.requires.report.faults }) port t)
@@ -33,11 +34,11 @@ returns-clause-not_trouble g c = λ e.
 pub returns-clause-ports : goal.returns-clause-ports
 returns-clause-ports g c = λ d r.
     ends_later g.D.Desk.ports c.run-status.result (has_files d) (file_name c.args.words.now d) (IsTextOf (told_input (g.D.Desk.held c.args.desk.now) c.args.words.now d) d) c.args.desk.now c.run-status.new.desk c.tell.new.desk
-    c.tell.ensures.others (c.run-status.ensures.ports d r)
+    c.tell.ensures.apart.others (c.run-status.ensures.ports d r)
 
 pub returns-clause-ports_left : goal.returns-clause-ports_left
 returns-clause-ports_left g c = λ left p t.
-    c.tell.ensures.others p t
+    c.tell.ensures.apart.others p t
     ∙ elim (bad_or_read c.run-status.result c.args.words.now c.run-status.ensures.words) [
       | inl bad ↦ c.run-status.ensures.unread bad.0 bad.1 p
       | inr read ↦ ports_left g.D.Desk.ports c.run-status.result (has_files read.0) (file_name c.args.words.now read.0) (IsTextOf (told_input (g.D.Desk.held c.args.desk.now) c.args.words.now read.0) read.0) c.args.desk.now c.run-status.new.desk
@@ -47,7 +48,7 @@ returns-clause-ports_left g c = λ left p t.
 pub returns-clause-tried : goal.returns-clause-tried
 returns-clause-tried g c = λ d r.
     let grown = c.run-status.ensures.tried d r in
-    (grown.0, c.tell.ensures.tried ∙ grown.1)
+    (grown.0, c.tell.ensures.apart.tried ∙ grown.1)
 
 pub returns-clause-sound : goal.returns-clause-sound
 returns-clause-sound g c = λ done d r f is. made_sound c.args.words.now d r f
@@ -58,10 +59,10 @@ returns-clause-bounds g c = λ done d r f is. made_bounded c.args.words.now d r 
 pub returns-clause-completes : goal.returns-clause-completes
 returns-clause-completes g c = λ text s i none ports.
     let d = i.command in
-    outcome_comes c.run-status.result (IsInput c.args.words.now (g.D.Desk.held c.args.desk.now)) (g.D.Desk.input c.run-status.new.desk) c.run-status.ensures.input text s i (omega (arith, ap (λ (x : InputState). x.faults) c.tell.ensures.input, none))
+    outcome_comes c.run-status.result (IsInput c.args.words.now (g.D.Desk.held c.args.desk.now)) (g.D.Desk.input c.run-status.new.desk) c.run-status.ensures.input text s i (omega (arith, ap (λ (x : InputState). x.faults) c.tell.ensures.apart.input, none))
     (no_write_fault g.D.Desk.ports c.run-status.result (has_files d) (file_name c.args.words.now d) (IsTextOf (told_input (g.D.Desk.held c.args.desk.now) c.args.words.now d) d) c.args.desk.now c.tell.new.desk
     (ends_later g.D.Desk.ports c.run-status.result (has_files d) (file_name c.args.words.now d) (IsTextOf (told_input (g.D.Desk.held c.args.desk.now) c.args.words.now d) d) c.args.desk.now c.run-status.new.desk c.tell.new.desk
-    c.tell.ensures.others (c.run-status.ensures.ports d i.reads)) ports)
+    c.tell.ensures.apart.others (c.run-status.ensures.ports d i.reads)) ports)
 
 pub returns-clause-demo_completes : goal.returns-clause-demo_completes
 returns-clause-demo_completes g c = λ size seed plan r none.
@@ -69,10 +70,17 @@ returns-clause-demo_completes g c = λ size seed plan r none.
     done_or_no_memory c.run-status.result (c.run-status.ensures.demo size seed plan r).kind
     (no_write_fault g.D.Desk.ports c.run-status.result (has_files d) (file_name c.args.words.now d) (IsTextOf (told_input (g.D.Desk.held c.args.desk.now) c.args.words.now d) d) c.args.desk.now c.tell.new.desk
     (ends_later g.D.Desk.ports c.run-status.result (has_files d) (file_name c.args.words.now d) (IsTextOf (told_input (g.D.Desk.held c.args.desk.now) c.args.words.now d) d) c.args.desk.now c.run-status.new.desk c.tell.new.desk
-    c.tell.ensures.others (c.run-status.ensures.ports d r)) none)
+    c.tell.ensures.apart.others (c.run-status.ensures.ports d r)) none)
 
 pub returns-clause-demo_reads_nothing : goal.returns-clause-demo_reads_nothing
-returns-clause-demo_reads_nothing g c = λ size seed plan r. c.tell.ensures.input ∙ (c.run-status.ensures.demo size seed plan r).input_is
+returns-clause-demo_reads_nothing g c = λ size seed plan r. c.tell.ensures.apart.input ∙ (c.run-status.ensures.demo size seed plan r).input_is
 
 pub returns-clause-demo_untouched : goal.returns-clause-demo_untouched
-returns-clause-demo_untouched g c = λ size seed plan r e p t. c.tell.ensures.others p t ∙ (c.run-status.ensures.demo size seed plan r).no_memory e p t
+returns-clause-demo_untouched g c = λ size seed plan r e p t. c.tell.ensures.apart.others p t ∙ (c.run-status.ensures.demo size seed plan r).no_memory e p t
+
+pub returns-clause-accepted : goal.returns-clause-accepted
+returns-clause-accepted g c = λ text s i.
+    elim (c.run-status.ensures.accepted text s i) [
+      | inl kept ↦ inl (λ p t. c.tell.ensures.apart.others p t ∙ kept p t)
+      | inr read ↦ inr (subst (λ (x : InputState). Accepts s.step text x.left) (sym c.tell.ensures.apart.input) read)
+    ]

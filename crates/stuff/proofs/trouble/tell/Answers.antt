@@ -13,11 +13,9 @@ returns-in_default g c =
     let old = (g.D.Desk.ports c.args.desk.now Trouble).text in
     let new = (g.D.Desk.ports c.put_all.new.desk Trouble).text in
     record {
+      is_open = c.put_all.ensures.is_open;
       part = subst (λ (t : List ℕ). AppendsPart old new t) text (part_whatever c.put_all.result old new c.as_slice.result.now c.put_all.ensures.all c.put_all.ensures.part);
       whole = λ none. subst (λ (t : List ℕ). Appends old new t) text (whole_without_fault c.put_all.result _ _ old new c.as_slice.result.now c.put_all.ensures.all c.put_all.ensures.cause c.requires.no_faults none);
-      tried = c.put_all.ensures.tried;
-      input = c.put_all.ensures.input;
-      others = c.put_all.ensures.others;
+      apart = c.put_all.ensures.apart;
       quiet = λ d. absurd (c.in_default.not-Done d);
-      held = c.put_all.ensures.held;
     }

@@ -4,7 +4,8 @@ use Rattle.definitions.specs.declared.Dims.{Dims}
 use Rattle.definitions.specs.Lattice.{vertices}
 use Rattle.layer_cells.specs.Seats.{Subject}
 use Rattle.slab_survey.specs.Workers.{WorkerValue}
-use Rattle.mesh_lists.proofs.Results.{if_ok, if_ok_both}
+use Rattle.std.proofs.lemmas.Result.{IfOk-weaker}
+use Rattle.mesh_lists.proofs.Results.{if_ok_both}
 use Rattle.survey_workers.specs.Going.{ledgers_back, made_back, IsEnded, IsReady}
 use Rattle.survey.proofs.Rises.{rises, together}
 use Rattle.survey.proofs.run.survey.Goals as goal
@@ -21,13 +22,13 @@ conclude-requires-clause-workers g c =
 
 pub returns-clause-ledgers : goal.returns-clause-ledgers
 returns-clause-ledgers g c =
-    if_ok c.conclude.result (λ r. (r.0.made ≡ concat (made_back c.run_to_end-workers.result.items)) × (r.1.items ≡ ledgers_back c.run_to_end-workers.result.items)) _
-    (if_ok_both c.conclude.result _ _ c.conclude.ensures.made c.conclude.ensures.ledgers)
+    IfOk-weaker c.conclude.result (λ r. (r.0.made ≡ concat (made_back c.run_to_end-workers.result.items)) × (r.1.items ≡ ledgers_back c.run_to_end-workers.result.items)) _
     (λ r h. rises g.L.Ledger.count c.args.field.now.dims c.in_ok-workers.workers.items c.run_to_end-workers.result.items c.args.ledgers.items r.1.items r.0.made c.in_ok-workers.ensures.ledgers h.1 h.0 c.run_to_end-workers.ensures.len c.run_to_end-workers.ensures.ledgers)
+    (if_ok_both c.conclude.result _ _ c.conclude.ensures.made c.conclude.ensures.ledgers)
 
 pub returns-clause-together : goal.returns-clause-together
 returns-clause-together g c =
-    if_ok c.conclude.result (λ r. (r.0.made ≡ concat (made_back c.run_to_end-workers.result.items)) × (r.1.items ≡ ledgers_back c.run_to_end-workers.result.items)) _
-    (if_ok_both c.conclude.result _ _ c.conclude.ensures.made c.conclude.ensures.ledgers)
+    IfOk-weaker c.conclude.result (λ r. (r.0.made ≡ concat (made_back c.run_to_end-workers.result.items)) × (r.1.items ≡ ledgers_back c.run_to_end-workers.result.items)) _
     (λ r h. together g.L.Ledger.count c.args.field.now.dims c.args.ledgers.items r.1.items r.0.made
     (rises g.L.Ledger.count c.args.field.now.dims c.in_ok-workers.workers.items c.run_to_end-workers.result.items c.args.ledgers.items r.1.items r.0.made c.in_ok-workers.ensures.ledgers h.1 h.0 c.run_to_end-workers.ensures.len c.run_to_end-workers.ensures.ledgers))
+    (if_ok_both c.conclude.result _ _ c.conclude.ensures.made c.conclude.ensures.ledgers)

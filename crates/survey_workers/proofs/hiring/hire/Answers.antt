@@ -1,13 +1,14 @@
 use Rattle.std.proofs.Common.{◌≡◌, ◌<◌, ◌+◌, ◌-◌, ◌^◌, ◌++◌, ◌∷◌, [], ℕ, List, All, false, append_assoc, length, length-append, sym, ap, ◌∙◌, subst, arith}
 use Rattle.std.specs.declared.option.Option.{Option}
 use Rattle.std.specs.Option.{option_to_list}
+use Rattle.std.proofs.lemmas.List.Elements.{All-push}
 use Rattle.std.proofs.lemmas.List.Sums.{sum_by_push}
 use Rattle.definitions.specs.Lattice.{vertices}
 use Rattle.slab_claims.specs.Seats.{SeatValue}
 use Rattle.layer_cells.specs.Answers.{seat_given}
 use Rattle.slab_survey.specs.Workers.{WorkerValue}
 use Rattle.survey_workers.specs.Going.{ledgers_back, shares_of, IsReady}
-use Rattle.survey_workers.proofs.Shares.{is_ready, last_of_all, ledgers_push, one_more, rest_of_all}
+use Rattle.survey_workers.proofs.Shares.{is_ready, last_of_all, ledgers_push, rest_of_all}
 use Rattle.survey_workers.proofs.hiring.hire.Goals as goal
 
 pub loop-claim_seat-preserved : goal.loop-claim_seat-preserved
@@ -40,7 +41,7 @@ loop-claim_seat-preserved g c =
       few = let f = i.few in omega arith;
       ledgers = rest_of_all (λ y. g.L.Ledger.count y + length (vertices c.args.cells.now.subject.field.dims) < 2 ^ 64) c.pop.new.self.items x all;
       ready = subst (λ (l : List (WorkerValue g.row.L.Denot)). All (λ v. IsReady c.args.cells.now.subject.field.dims c.args.claims.now c.args.cells.now v × (g.L.Ledger.count v.ledger + length (vertices c.args.cells.now.subject.field.dims) < 2 ^ 64)) l) (sym more)
-          (one_more (λ (v : WorkerValue g.row.L.Denot). IsReady c.args.cells.now.subject.field.dims c.args.claims.now c.args.cells.now v × (g.L.Ledger.count v.ledger + length (vertices c.args.cells.now.subject.field.dims) < 2 ^ 64)) c.loop-claim_seat.workers.items w i.ready (ready, paid));
+          (All-push (λ (v : WorkerValue g.row.L.Denot). IsReady c.args.cells.now.subject.field.dims c.args.claims.now c.args.cells.now v × (g.L.Ledger.count v.ledger + length (vertices c.args.cells.now.subject.field.dims) < 2 ^ 64)) c.loop-claim_seat.workers.items w i.ready (ready, paid));
       total = let t = i.total in omega arith;
       long = let l = i.long in omega arith;
       order = ap (λ (l : List g.row.L.Denot). c.pop.new.self.items ++ l) back ∙ sym (append_assoc c.pop.new.self.items (x ∷ []) (ledgers_back c.loop-claim_seat.workers.items)) ∙ ap (λ (l : List g.row.L.Denot). l ++ ledgers_back c.loop-claim_seat.workers.items) (sym items) ∙ i.order;
@@ -60,4 +61,4 @@ returns-clause-ready g c =
     let paid = subst (λ (y : g.row.L.Denot). g.L.Ledger.count y + length (vertices c.args.cells.now.subject.field.dims) < 2 ^ 64) (sym n.3) (last_of_all (λ y. g.L.Ledger.count y + length (vertices c.args.cells.now.subject.field.dims) < 2 ^ 64) c.pop-2.new.self.items x all) in
     let more : c.push_reserved-2.new.self.items ≡ c.loop-claim_seat.workers.items ++ w ∷ [] = c.push_reserved-2.ensures.items in
     subst (λ (l : List (WorkerValue g.row.L.Denot)). All (λ v. IsReady c.args.cells.now.subject.field.dims c.args.claims.now c.args.cells.now v × (g.L.Ledger.count v.ledger + length (vertices c.args.cells.now.subject.field.dims) < 2 ^ 64)) l) (sym more)
-    (one_more (λ (v : WorkerValue g.row.L.Denot). IsReady c.args.cells.now.subject.field.dims c.args.claims.now c.args.cells.now v × (g.L.Ledger.count v.ledger + length (vertices c.args.cells.now.subject.field.dims) < 2 ^ 64)) c.loop-claim_seat.workers.items w i.ready (ready, paid))
+    (All-push (λ (v : WorkerValue g.row.L.Denot). IsReady c.args.cells.now.subject.field.dims c.args.claims.now c.args.cells.now v × (g.L.Ledger.count v.ledger + length (vertices c.args.cells.now.subject.field.dims) < 2 ^ 64)) c.loop-claim_seat.workers.items w i.ready (ready, paid))

@@ -45,7 +45,7 @@ returns-clause-nodes g c = λ ss padded agrees.
     let d = c.args.dims in
     let t = g.S.StateSource.told c.args.from.now in
     c.loop-j.invariant.nodes
-    ∙ ap (λ n. sum_by (nodes_at_id d t) (range_with_len (layer_start d c.args.h) n)) (all_rows d c.args.h c.loop-j.j c.loop-j-test.false c.loop-j.auto.j-end)
+    ∙ ap (λ n. sum_by (nodes_at_id d t) (range_with_len (layer_start d c.args.h) n)) (all_rows d c.args.h c.loop-j.j c.rows-j-end.result c.rows-j-end.ensures.rows c.loop-j-test.false c.loop-j.auto.j-end)
     ∙ nodes_of_layer d c.requires.dims c.args.h c.requires.layer (g.S.StateSource.knows c.args.from.now) t ss agrees c.requires.known padded
 
 pub returns-clause-tets : goal.returns-clause-tets
@@ -53,5 +53,5 @@ returns-clause-tets g c = λ ss padded agrees.
     let d = c.args.dims in
     let t = g.S.StateSource.told c.args.from.now in
     c.loop-j.invariant.tets
-    ∙ ap (λ n. sum_by (pieces_at_id d t) (range_with_len (layer_start d c.args.h) n)) (all_rows d c.args.h c.loop-j.j c.loop-j-test.false c.loop-j.auto.j-end)
+    ∙ ap (λ n. sum_by (pieces_at_id d t) (range_with_len (layer_start d c.args.h) n)) (all_rows d c.args.h c.loop-j.j c.rows-j-end.result c.rows-j-end.ensures.rows c.loop-j-test.false c.loop-j.auto.j-end)
     ∙ pieces_of_layer d c.requires.dims c.args.h c.requires.layer (g.S.StateSource.knows c.args.from.now) t ss agrees c.requires.known

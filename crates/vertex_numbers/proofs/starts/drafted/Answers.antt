@@ -1,16 +1,16 @@
-use Rattle.std.proofs.Common.{◌≡◌, ◌<◌, ◌≤◌, ℕ, ap, subst, ◌∙◌, arith}
+use Rattle.std.proofs.Common.{◌≡◌, ◌≤◌, ℕ, ap, subst, ◌∙◌, arith}
 use Rattle.definitions.specs.Layout.{layer_start}
 use Rattle.vertex_numbers.specs.Numbering.{IsDraft}
-use Rattle.vertex_numbers.proofs.LayerStarts.{ends_at, starts_rise}
+use Rattle.vertex_numbers.proofs.LayerStarts.{starts_rise}
 use Rattle.vertex_numbers.proofs.starts.drafted.Goals as goal
 
 pub overflow_sub-end : goal.overflow_sub-end
 overflow_sub-end c =
     let d = c.args.states.now.dims in
-    let some : 0 < c.args.to = (let s = c.requires.some in omega arith) in
+    let same = c.dims-dims.ensures.dims in
     between _ _ _ _
-    (c.layer_start-first.ensures.start ∙ ap (λ e. layer_start e c.args.from) c.dims.ensures.dims)
-    (ends_at d c.dims.result c.args.to _ _ c.dims.ensures.dims some c.requires.within c.layer_start.ensures.start c.layer_len.ensures.len)
+    (c.ids_below-first.ensures.start ∙ ap (λ e. layer_start e c.args.from) same)
+    (c.ids_below-end.ensures.start ∙ ap (λ e. layer_start e c.args.to) same)
     (starts_rise d c.args.from c.args.to (let s = c.requires.some in omega arith) c.requires.within)
   where
     between : (a b s t : ℕ) → a ≡ s → b ≡ t → s ≤ t → a ≤ b

@@ -26,27 +26,17 @@ invariant_of-result c =
     let is = c.in_ok-first.ensures.draft in
     are_starts s.dims s.states draft.first _ draft.nodes.items draft.before.items (are_of_ids s.dims s.states _ draft is) c.requires.dims (within s.dims c.args.to draft.first c.requires.within is.begun)
 
-pub returns-clause-end : goal.returns-clause-end
-returns-clause-end c =
-    let s = c.args.states.now in
-    let draft = c.in_ok-first.field-0 in
-    let is = c.in_ok-first.ensures.draft in
-    ap (λ n. draft.first + n) (bits_len s.dims s.states draft.first _ draft.nodes.items draft.before.items (are_of_ids s.dims s.states _ draft is)) ∙ all_ids draft.first _ is.begun
-
-pub returns-clause-used : goal.returns-clause-used
-returns-clause-used c = λ key h.
-    let s = c.args.states.now in
-    let draft = c.in_ok-first.field-0 in
-    let are = are_of_ids s.dims s.states _ draft c.in_ok-first.ensures.draft in
-    let len = bits_len s.dims s.states draft.first _ draft.nodes.items draft.before.items are in
-    used_is s.dims s.states draft.first _ draft.nodes.items draft.before.items are key h.low (inside (key / 8) draft.first _ _ h.high len)
-
-pub returns-clause-number : goal.returns-clause-number
-returns-clause-number c = λ key h o.
+pub returns-clause-numbers : goal.returns-clause-numbers
+returns-clause-numbers c =
     let s = c.args.states.now in
     let draft = c.in_ok-first.field-0 in
     let is = c.in_ok-first.ensures.draft in
     let are = are_of_ids s.dims s.states _ draft is in
     let len = bits_len s.dims s.states draft.first _ draft.nodes.items draft.before.items are in
-    number_is s.dims s.states draft.first _ draft.nodes.items draft.before.items are key h.low (inside (key / 8) draft.first _ _ h.high len)
-    (within s.dims c.args.to draft.first c.requires.within is.begun) o
+    record {
+      first = c.in_ok-first.ensures.first;
+      end = ap (λ n. draft.first + n) len ∙ all_ids draft.first _ is.begun;
+      used = λ key h. used_is s.dims s.states draft.first _ draft.nodes.items draft.before.items are key h.low (inside (key / 8) draft.first _ _ h.high len);
+      number = λ key h o.
+          number_is s.dims s.states draft.first _ draft.nodes.items draft.before.items are key h.low (inside (key / 8) draft.first _ _ h.high len) (within s.dims c.args.to draft.first c.requires.within is.begun) o;
+    }

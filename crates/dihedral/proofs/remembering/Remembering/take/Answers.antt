@@ -1,6 +1,6 @@
-use Rattle.std.proofs.Common.{rules, ◌<◌, refl, subst, length}
+use Rattle.std.proofs.Common.{refl}
 use Rattle.std.proofs.lemmas.List.Elements.{All-set}
-use Rattle.dihedral.specs.Shapes.{Covers, CoversShape}
+use Rattle.dihedral.specs.Shapes.{CoversShape}
 use Rattle.dihedral.specs.Stars.{six_shapes}
 use Rattle.dihedral.proofs.CoveredAngles.{stay_six}
 use Rattle.dihedral.proofs.SameShapes.{all_wider, covers_shape}

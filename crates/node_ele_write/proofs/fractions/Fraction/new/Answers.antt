@@ -1,4 +1,4 @@
-use Rattle.std.proofs.Common.{arith, refl, replicate}
+use Rattle.std.proofs.Common.{arith}
 use Rattle.node_ele_write.proofs.Decimals.{fraction_bytes, fraction_length}
 use Rattle.node_ele_write.proofs.fractions.Fraction.new.Goals as goal
 

@@ -7,8 +7,9 @@ use Rattle.definitions.specs.Layout.{layer_start}
 use Rattle.definitions.specs.Mesh.{ArePadded, node_place}
 use Rattle.vertex_numbers.specs.Numbering.{nodes_before}
 use Rattle.vertex_numbers.proofs.LayerStarts.{counts_len, counts_to}
-use Rattle.slab_texts.specs.Nodes.{keys_of_ids}
-use Rattle.slab_texts.proofs.Places.{few_nodes, first_of_layer}
+use Rattle.vertex_numbers.proofs.LayerIds.{first_of_layer}
+use Rattle.mesh_lists.specs.Parts.{keys_of_ids}
+use Rattle.slab_texts.proofs.Places.{few_nodes}
 use Rattle.slab_texts.proofs.Walks.{numbers_of_sizes, span_within}
 use Rattle.slab_texts.proofs.nodes.Nodes.of_layers.Goals as goal
 
@@ -21,17 +22,15 @@ places_of-requires-clause-first c = λ lt.
     let sizes = c.dims-dims.ensures.dims ∙ c.requires.sizes in
     let start : c.ids_below-start.result ≡ layer_start d c.args.from = c.ids_below-start.ensures.start ∙ ap (λ (e : Dims). layer_start e c.args.from) sizes in
     let within : c.args.to ≤ layers d = subst (λ (e : Dims). c.args.to ≤ layers e) c.requires.sizes c.requires.within in
-    c.first_vertex-v.ensures ∙ first_of_layer d c.args.from (subst IsDims sizes c.dims-dims.ensures.sizes) (below c.args.from c.args.to (layers d) c.requires.some within) ∙ ap (vertex_at d) (sym start)
+    c.first_vertex-v.ensures.vertex ∙ first_of_layer d c.args.from (subst IsDims sizes c.dims-dims.ensures.sizes) (below c.args.from c.args.to (layers d) c.requires.some within) ∙ ap (vertex_at d) (sym start)
 
-pub count-count-requires-clause-layers : goal.count-count-requires-clause-layers
-count-count-requires-clause-layers c =
-    ap layers c.dims-dims.ensures.dims
-    ∙ sym (ap length c.requires.offsets ∙ counts_len c.args.states.now.dims c.args.states.now.states)
+pub count-count-requires-clause-within : goal.count-count-requires-clause-within
+count-count-requires-clause-within c = subst (λ n. c.args.to ≤ n) (sym (ap length c.requires.offsets ∙ counts_len c.args.states.now.dims c.args.states.now.states)) c.requires.within
 
 pub node_start-requires : goal.node_start-requires
 node_start-requires c =
-    subst (λ n. c.args.from < n) (sym (ap length c.requires.offsets ∙ counts_len c.args.states.now.dims c.args.states.now.states))
-    (below c.args.from c.args.to (layers c.args.states.now.dims) c.requires.some c.requires.within)
+    let l = below c.args.from c.args.to (layers c.args.states.now.dims) c.requires.some c.requires.within in
+    subst (λ n. c.args.from ≤ n) (sym (ap length c.requires.offsets ∙ counts_len c.args.states.now.dims c.args.states.now.states)) (let h : c.args.from ≤ layers c.args.states.now.dims = omega arith in h)
 
 pub returns-clause-nodes : goal.returns-clause-nodes
 returns-clause-nodes c =
@@ -40,11 +39,11 @@ returns-clause-nodes c =
     let sizes = c.dims-dims.ensures.dims ∙ c.requires.sizes in
     let start : c.ids_below-start.result ≡ layer_start d c.args.from = c.ids_below-start.ensures.start ∙ ap (λ (e : Dims). layer_start e c.args.from) sizes in
     let end : c.ids_below-end.result ≡ layer_start d c.args.to = c.ids_below-end.ensures.start ∙ ap (λ (e : Dims). layer_start e c.args.to) (c.dims-dims.ensures.dims ∙ c.requires.sizes) in
-    let h = c.in-Ok.ensures in
+    let h = c.in_ok-starts.ensures in
     record {
       padded = subst (λ (e : Dims). ArePadded e s.states) c.requires.sizes c.requires.padded;
-      numbers = numbers_of_sizes s.dims d s.states c.args.from c.args.to c.ids_below-start.result c.ids_below-end.result c.in-Ok.starts c.requires.sizes start end h.first h.end h.used h.number;
-      count = ap length c.in-Ok-places_of.ensures ∙ length-map (keys_of_ids d s.states c.ids_below-start.result _) (node_place c.args.field.now s.states);
+      numbers = numbers_of_sizes s.dims d s.states c.args.from c.args.to c.ids_below-start.result c.ids_below-end.result c.in_ok-starts.starts c.requires.sizes start end h;
+      count = ap length c.in_ok-places.ensures ∙ length-map (keys_of_ids d s.states c.ids_below-start.result _) (node_place c.args.field.now s.states);
       first =
           c.node_start.ensures
           ∙ ap (λ counts. sum_by (λ c. c.nodes) (take c.args.from counts)) c.requires.offsets
@@ -60,7 +59,7 @@ returns-clause-few c =
     let sizes = c.dims-dims.ensures.dims ∙ c.requires.sizes in
     let start : c.ids_below-start.result ≡ layer_start d c.args.from = c.ids_below-start.ensures.start ∙ ap (λ (e : Dims). layer_start e c.args.from) sizes in
     let end : c.ids_below-end.result ≡ layer_start d c.args.to = c.ids_below-end.ensures.start ∙ ap (λ (e : Dims). layer_start e c.args.to) (c.dims-dims.ensures.dims ∙ c.requires.sizes) in
-    let count = ap length c.in-Ok-places_of.ensures ∙ length-map (keys_of_ids d s.states c.ids_below-start.result _) (node_place c.args.field.now s.states) in
+    let count = ap length c.in_ok-places.ensures ∙ length-map (keys_of_ids d s.states c.ids_below-start.result _) (node_place c.args.field.now s.states) in
     let first =
     c.node_start.ensures
     ∙ ap (λ counts. sum_by (λ c. c.nodes) (take c.args.from counts)) c.requires.offsets

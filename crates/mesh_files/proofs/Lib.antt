@@ -1,0 +1,5 @@
+pub mod LineSteps
+pub mod LinesRead
+pub mod Digits
+pub mod GridUnits
+mod Worked

@@ -1,0 +1,5 @@
+pub mod Lines
+pub mod Numbers
+pub mod Forms
+pub mod Files
+pub mod Verdicts

@@ -1,0 +1,15 @@
+pub mod WeightSums
+pub mod Averages
+pub mod HeldPoints
+pub mod Boxes
+pub mod NearNodes
+pub mod PieceNodes
+pub mod FirstPieces
+pub mod TetPieces
+pub mod TetsOfVertex
+pub mod SmallPlaces
+pub mod Clear
+pub mod FirstHold
+pub mod PieceCounts
+pub mod HeldOnce
+pub mod OneSample

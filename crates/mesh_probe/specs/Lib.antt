@@ -1,0 +1,7 @@
+pub mod Holding
+pub mod Near
+pub mod Boxes
+pub mod Found
+pub mod Answers
+pub mod Laws
+pub use Rattle.definitions.specs.Mesh

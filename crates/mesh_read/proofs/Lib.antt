@@ -1,0 +1,3 @@
+mod RankAnswers
+mod FileAnswers
+mod Readings

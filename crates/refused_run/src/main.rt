@@ -1,0 +1,18 @@
+//! The program once more, for a second stored run: the last of five words is refused.
+#![tactic(auto)]
+
+use desk_std::System;
+use program::carry_out;
+use std::process::ExitCode;
+
+fn main(rt: HostRuntime) -> ExitCode {
+    let status = carry_out(
+        &rt,
+        &rt,
+        rt.alloc(),
+        System::new(&rt),
+        rt.stdout(),
+        rt.stderr(),
+    );
+    ExitCode::from(status.code())
+}

@@ -1,0 +1,10 @@
+use Rattle.std.proofs.Common.{◌∙◌, length, arith, sym}
+use Rattle.std.proofs.lemmas.List.Sums.{prefix_len_is}
+use Rattle.formats.specs.Counts.{is_blank}
+use Rattle.text_words.proofs.leading_blanks.Goals as goal
+
+pub returns-then-not-blank-clause-value : goal.returns-then-not-blank-clause-value
+returns-then-not-blank-clause-value c = sym (prefix_len_is is_blank c.args.text.now c.loop-i.i 0 (omega arith) c.loop-i.invariant (λ lt. sym c.blank.ensures ∙ c.if-not-blank.true))
+
+pub returns-clause-value : goal.returns-clause-value
+returns-clause-value c = sym (prefix_len_is is_blank c.args.text.now (length c.args.text.now) 0 (omega arith) (λ k lt. c.loop-i.invariant k (omega arith)) (λ lt. absurd (omega arith)))

@@ -1,7 +1,0 @@
-use Rattle.std.proofs.Common.{true}
-use Rattle.vertex_numbers.proofs.Neighbours.{near_known}
-use Rattle.vertex_numbers.proofs.alike.is_at.Goals as goal
-
-pub state-requires-clause-known : goal.state-requires-clause-known
-state-requires-clause-known g c =
-    near_known c.args._dims (g.S.StateSource.knows c.args.from.now) c.args._v c.args.w c.args._number true c.requires.known c.requires.low c.requires.high c.requires.neighbour.is
