@@ -6,3 +6,4 @@ pub mod Places
 pub mod Sorted
 pub mod Partners
 pub mod BoundaryTriangles
+pub mod Groups

@@ -1,3 +1,4 @@
 pub mod Sides
 pub mod Pairs
 pub mod Open
+pub mod NeighbourLaws

@@ -3,6 +3,8 @@
 
 mod across;
 mod boundary;
+mod gather;
+mod mutual;
 mod pairs;
 mod side;
 mod sides;
@@ -10,4 +12,5 @@ mod texts;
 
 pub use across::neighbours;
 pub use boundary::{faces, faces_by_neighbours};
+pub use mutual::{neighbours_are_mutual, neighbours_end_at_boundary};
 pub use texts::{face_line, neigh_line};

@@ -1,7 +1,9 @@
 ghost use Rattle.std.specs.Prelude.{◌≡◌};
 ghost use Rattle.face_neigh.specs.Sides.{IsSmall, key_of, side_of};
 
-/// A triangle of a tetrahedron: its nodes ascending, and its place among the triangles of all.
+/// A triangle of a tetrahedron: its nodes, and its place among the triangles of all.
+///
+/// Invariant: `low <= middle <= high`, as `new` gives them.
 #[derive(Clone, Copy)]
 pub struct Side {
     /// The least node.

@@ -3,6 +3,7 @@ ghost use Rattle.std.specs.List.Sorted.{IsNonDecreasingBy};
 ghost use Rattle.definitions.specs.Soundness.{triangles_of};
 ghost use Rattle.face_neigh.specs.Sides.{IsSmall, key_of, sides, sides_from};
 
+use crate::gather::gather;
 use crate::side::Side;
 use st_base::NoMemory;
 use std::alloc::Global;
@@ -54,6 +55,7 @@ pub fn sorted_sides(alloc: Global, tets: &[[u32; 4]]) -> Result<Vec<Side>, NoMem
     ensures sorted { IfOk result (λ sorted. IsNonDecreasingBy key_of sorted.items) }
 {
     let mut sides = in_order(alloc, tets)?;
+    gather(alloc, &mut sides)?;
     sides.sort_unstable_by_key(|side| side.key());
     Ok(sides)
 }

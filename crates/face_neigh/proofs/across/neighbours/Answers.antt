@@ -6,18 +6,12 @@ use Rattle.face_neigh.specs.declared.side.Side.{Side}
 use Rattle.face_neigh.specs.Pairs.{none_noted, NotesPairs}
 use Rattle.face_neigh.proofs.Places.{fit_of}
 use Rattle.face_neigh.proofs.Sorted.{places_below}
-use Rattle.face_neigh.proofs.Partners.{mutual_of, ends_of, answers_noted}
+use Rattle.face_neigh.proofs.Partners.{answers_noted}
 use Rattle.face_neigh.proofs.across.neighbours.Goals as goal
 
 both : {X Y : Type 0} (r : Result X Y) (P Q : X → Type 0) → IfOk r P → IfOk r Q → IfOk r (λ x. P x × Q x)
 both (Ok x) P Q p q = (p, q)
 both (Err e) P Q p q = p
-
-pub returns-in_err-sides-clause-mutual : goal.returns-in_err-sides-clause-mutual
-returns-in_err-sides-clause-mutual c = mutual_of c.args.tets.now (fit_of c.args.tets.now c.told-tets c.requires.differ c.requires.by_two)
-
-pub returns-in_err-sides-clause-ends : goal.returns-in_err-sides-clause-ends
-returns-in_err-sides-clause-ends c = ends_of c.args.tets.now (fit_of c.args.tets.now c.told-tets c.requires.differ c.requires.by_two)
 
 pub noted_pairs-requires : goal.noted_pairs-requires
 noted_pairs-requires c =
@@ -32,9 +26,3 @@ returns-clause-neighbours c =
     (λ found h. answers_noted tets fit c.in_ok-sides.sides.items found.items c.in_ok-sides.ensures.permutation c.in_ok-sides.ensures.small c.in_ok-sides.ensures.sorted h.0
     (subst (λ (s : List Side). NotesPairs (none_noted (length c.args.tets.now)) found.items s (length s)) c.deref.ensures.value h.1))
     (both c.noted_pairs.result _ _ c.noted_pairs.ensures.length c.noted_pairs.ensures.pairs)
-
-pub returns-clause-mutual : goal.returns-clause-mutual
-returns-clause-mutual c = mutual_of c.args.tets.now (fit_of c.args.tets.now c.told-tets c.requires.differ c.requires.by_two)
-
-pub returns-clause-ends : goal.returns-clause-ends
-returns-clause-ends c = ends_of c.args.tets.now (fit_of c.args.tets.now c.told-tets c.requires.differ c.requires.by_two)
