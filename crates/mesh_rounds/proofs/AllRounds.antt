@@ -54,7 +54,7 @@ part_broke a b c ps n d lt h k =
     (part_longer a c (text_of (take (n + 1) ps)) (text_of (drop (n + 1) ps))
     (subst (λ (t : List ℕ). AppendsPart a c t) (text_more ps n d lt) (part_behind a b c (text_of (take n ps)) (get_or ps n d).text.items h k)))
 
-front_part : (a b : Option (List ℕ)) (xs ys : List ℕ) → Appends a b xs → AppendsPart a b (xs ++ ys)
+pub front_part : (a b : Option (List ℕ)) (xs ys : List ℕ) → Appends a b xs → AppendsPart a b (xs ++ ys)
 front_part a b xs ys h = part_longer a b xs ys (length xs, omega arith, subst (λ (t : List ℕ). Appends a b t) (sym (take_all (length xs) xs (omega arith))) h)
 
 -- slabs in a row

@@ -13,5 +13,5 @@ mod lines;
 mod rounds;
 
 pub use files::{put_nodes, put_tets};
-pub use lines::put_lines;
-pub use rounds::extremes;
+pub use lines::{put_lines, put_parts};
+pub use rounds::{Reached, extremes, next_round};

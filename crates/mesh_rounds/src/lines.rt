@@ -14,8 +14,8 @@ use st_base::{Desk, Gate, Port};
 use std::alloc::Global;
 use std::thread::Threads;
 
-// Writes the texts of parts, one after another.
-fn put_parts<D: Desk>(desk: &mut D, port: Port, parts: &[Part]) -> Result<(), PutFault>
+/// Writes the texts of parts to an open port, one after another, or some first bytes of them before a fault.
+pub fn put_parts<D: Desk>(desk: &mut D, port: Port, parts: &[Part]) -> Result<(), PutFault>
     requires is_open { (D.ports desk.old port).is_open ≡ true }
     ensures all { OnOk result (Appends (D.ports desk.old port).text (D.ports desk.new port).text (text_of parts.now)) }
     ensures part { OnErr result (AppendsPart (D.ports desk.old port).text (D.ports desk.new port).text (text_of parts.now)) }

@@ -7,12 +7,12 @@
 //! ```
 #![tactic(auto)]
 
-mod rounds;
+mod emission;
 mod source;
 
 pub use command_line::Plan;
+pub use emission::{emit_nodes, emit_tets, rounds};
 pub use mesh_lists::{Mesh, build_mesh, extremes};
-pub use rounds::{emit_nodes, emit_tets};
 pub use slab_emit::{Part, Source};
 pub use slab_survey::{Worker, survey_slab};
 pub use source::source_of;

@@ -5,7 +5,7 @@ use Rattle.slab_emit.specs.declared.Lines.TheVariants.{Nodes, Tets}
 use Rattle.slab_emit.specs.Parts.{AreParts}
 use Rattle.slab_emit.specs.Sources.{CanPrint, SourceValue}
 use Rattle.slab_work.proofs.Surveys.{mesh_printable}
-use Rattle.slab_work.proofs.rounds.emit_nodes.Goals as goal
+use Rattle.slab_work.proofs.emission.emit_nodes.Goals as goal
 
 pub emit-requires-clause-first : goal.emit-requires-clause-first
 emit-requires-clause-first g c κs within = subst (λ (s : SourceValue). c.args.first < slabs s.field.dims s.slab) (sym c.source_of-source.ensures) c.requires.first

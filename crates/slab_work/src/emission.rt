@@ -1,16 +1,29 @@
 ghost use Rattle.std.specs.Prelude.{◌≡◌, ◌-◌, ◌*◌, ◌<◌, ◌≤◌, IfOk, length, min};
 ghost use Rattle.command_line.specs.Grammar.{IsPlan};
 ghost use Rattle.definitions.specs.Layout.{slabs};
+ghost use Rattle.bcc_lattice.specs.Layouts.{IsLayout};
 ghost use Rattle.slab_emit.specs.Parts.{AreParts};
+ghost use Rattle.slab_work.specs.Rounds.{rounds_of};
 ghost use Rattle.slab_work.specs.Surveyed.{AreKept, surveyed};
 
 use crate::source_of;
+use bcc_lattice::Layout;
 use command_line::Plan;
 use slab_emit::{Crew, Lines, Part, emit};
 use st_base::{Gate, NoMemory};
 use std::alloc::Global;
 use std::thread::Threads;
 use survey::Survey;
+
+/// The number of rounds in which all slabs are made, each of four slabs for each worker of the plan, but for the last,
+/// which may have fewer.
+pub fn rounds(layout: &Layout, plan: Plan) -> u32
+    requires layout { IsLayout layout.now.dims layout.now.slab }
+    requires plan { IsPlan plan }
+    ensures { result ≡ rounds_of layout.now.dims layout.now.slab plan.workers }
+{
+    layout.slabs().div_ceil(4 * plan.workers)
+}
 
 /// The lines of the nodes of the slabs from `first` on, four slabs for each worker of the plan or as many as there are,
 /// in the order of slabs. Each place is in steps of `step` raw voxels.
