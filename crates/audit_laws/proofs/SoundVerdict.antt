@@ -118,7 +118,7 @@ not_false false e = sym e
 
 pub conforming_are_sound : ConformingAreSound
 unfolding verdict
-conforming_are_sound step places ts some conforming of few =
+conforming_are_sound step first places ts some conforming of few =
     let moved = map (scaled step) places in
     let count : length moved ≡ length places = length-map places (scaled step) in
     let positive : All (λ t. not (is_positive moved t) ≡ false) ts = λ k d lt. scaled_positive step places (get_or ts k d) some (conforming.four k d lt) (conforming.positive k d lt) in
@@ -127,9 +127,9 @@ conforming_are_sound step places ts some conforming of few =
     let none_flat : position (λ t. not (is_positive moved t)) ts ≡ None = position_none (λ t. not (is_positive moved t)) ts [] (λ k lt. positive k [] lt) in
     let none_many : position (is_crowded ts) ts ≡ None = position_none (is_crowded ts) ts [] (λ k lt. none_crowded ts (triangles_are_shared places ts conforming) k [] lt) in
     let none_twice : position (is_turned ts) ts ≡ None = position_none (is_turned ts) ts [] (λ k lt. none_turned ts (once places ts conforming plain) k [] lt) in
-    (λ i. found_or (none_flat i) (λ n. NotPositive (0 + n))
-    (found_or (none_many i) (λ n. Crowded (0 + n))
-    (found_or (none_twice i) (λ n. Turned (0 + n))
+    (λ i. found_or (none_flat i) (λ n. NotPositive (first + n))
+    (found_or (none_many i) (λ n. Crowded (first + n))
+    (found_or (none_twice i) (λ n. Turned (first + n))
     (Sound (count i) (length ts) (length (boundary ts))))))
   where
     wider : (n : ℕ) → n < length places → n < 2 ^ 32

@@ -1,4 +1,4 @@
-//! How the rows of the table are read, and how the files of one are judged.
+//! How the rows of the table are read.
 //!
 //! Bars part the fields of a row: a .node text, an .ele text, and the answer. In a text a semicolon
 //! stands for a newline, `^` for a carriage return, `~` for a tab, `!` for the byte 0, and `@` with a
@@ -8,26 +8,25 @@
 ghost use Rattle.std.specs.Prelude.{◌<◌, length};
 
 use desk_mem::MemDesk;
-use mesh_audit::{audit, read_nodes, read_tets};
-use st_base::{Desk, MeshFault, Verdict};
+use st_base::NoMemory;
 use std::alloc::{AllocError, Global};
 
-const BALL_NODES: &[u8] = b"15 3 0 0\n\
-0 0.0000000000000 0.0000000000000 -0.5000000000000\n\
-1 -0.2857666015625 -0.2857666015625 -0.2857666015625\n\
-2 0.2857666015625 -0.2857666015625 -0.2857666015625\n\
-3 -0.2857666015625 0.2857666015625 -0.2857666015625\n\
-4 0.2857666015625 0.2857666015625 -0.2857666015625\n\
-5 0.0000000000000 -0.5000000000000 0.0000000000000\n\
-6 -0.5000000000000 0.0000000000000 0.0000000000000\n\
-7 0.0000000000000 0.0000000000000 0.0000000000000\n\
-8 0.5000000000000 0.0000000000000 0.0000000000000\n\
-9 0.0000000000000 0.5000000000000 0.0000000000000\n\
-10 -0.2857666015625 -0.2857666015625 0.2857666015625\n\
-11 0.2857666015625 -0.2857666015625 0.2857666015625\n\
-12 -0.2857666015625 0.2857666015625 0.2857666015625\n\
-13 0.2857666015625 0.2857666015625 0.2857666015625\n\
-14 0.0000000000000 0.0000000000000 0.5000000000000\n";
+const BALL_NODES: &[u8] = b"15 3 0 1\n\
+0 0.0000000000000 0.0000000000000 -0.5000000000000 1\n\
+1 -0.2857666015625 -0.2857666015625 -0.2857666015625 1\n\
+2 0.2857666015625 -0.2857666015625 -0.2857666015625 1\n\
+3 -0.2857666015625 0.2857666015625 -0.2857666015625 1\n\
+4 0.2857666015625 0.2857666015625 -0.2857666015625 1\n\
+5 0.0000000000000 -0.5000000000000 0.0000000000000 1\n\
+6 -0.5000000000000 0.0000000000000 0.0000000000000 1\n\
+7 0.0000000000000 0.0000000000000 0.0000000000000 0\n\
+8 0.5000000000000 0.0000000000000 0.0000000000000 1\n\
+9 0.0000000000000 0.5000000000000 0.0000000000000 1\n\
+10 -0.2857666015625 -0.2857666015625 0.2857666015625 1\n\
+11 0.2857666015625 -0.2857666015625 0.2857666015625 1\n\
+12 -0.2857666015625 0.2857666015625 0.2857666015625 1\n\
+13 0.2857666015625 0.2857666015625 0.2857666015625 1\n\
+14 0.0000000000000 0.0000000000000 0.5000000000000 1\n";
 
 const BALL_TETS: &[u8] = b"24 4 0\n\
 0 0 1 2 7\n\
@@ -55,22 +54,22 @@ const BALL_TETS: &[u8] = b"24 4 0\n\
 22 7 11 13 14\n\
 23 7 12 14 13\n";
 
-const BALL_NODES_FROM_ONE: &[u8] = b"15 3 0 0\n\
-1 0.0000000000000 0.0000000000000 -0.5000000000000\n\
-2 -0.2857666015625 -0.2857666015625 -0.2857666015625\n\
-3 0.2857666015625 -0.2857666015625 -0.2857666015625\n\
-4 -0.2857666015625 0.2857666015625 -0.2857666015625\n\
-5 0.2857666015625 0.2857666015625 -0.2857666015625\n\
-6 0.0000000000000 -0.5000000000000 0.0000000000000\n\
-7 -0.5000000000000 0.0000000000000 0.0000000000000\n\
-8 0.0000000000000 0.0000000000000 0.0000000000000\n\
-9 0.5000000000000 0.0000000000000 0.0000000000000\n\
-10 0.0000000000000 0.5000000000000 0.0000000000000\n\
-11 -0.2857666015625 -0.2857666015625 0.2857666015625\n\
-12 0.2857666015625 -0.2857666015625 0.2857666015625\n\
-13 -0.2857666015625 0.2857666015625 0.2857666015625\n\
-14 0.2857666015625 0.2857666015625 0.2857666015625\n\
-15 0.0000000000000 0.0000000000000 0.5000000000000\n";
+const BALL_NODES_FROM_ONE: &[u8] = b"15 3 0 1\n\
+1 0.0000000000000 0.0000000000000 -0.5000000000000 1\n\
+2 -0.2857666015625 -0.2857666015625 -0.2857666015625 1\n\
+3 0.2857666015625 -0.2857666015625 -0.2857666015625 1\n\
+4 -0.2857666015625 0.2857666015625 -0.2857666015625 1\n\
+5 0.2857666015625 0.2857666015625 -0.2857666015625 1\n\
+6 0.0000000000000 -0.5000000000000 0.0000000000000 1\n\
+7 -0.5000000000000 0.0000000000000 0.0000000000000 1\n\
+8 0.0000000000000 0.0000000000000 0.0000000000000 0\n\
+9 0.5000000000000 0.0000000000000 0.0000000000000 1\n\
+10 0.0000000000000 0.5000000000000 0.0000000000000 1\n\
+11 -0.2857666015625 -0.2857666015625 0.2857666015625 1\n\
+12 0.2857666015625 -0.2857666015625 0.2857666015625 1\n\
+13 -0.2857666015625 0.2857666015625 0.2857666015625 1\n\
+14 0.2857666015625 0.2857666015625 0.2857666015625 1\n\
+15 0.0000000000000 0.0000000000000 0.5000000000000 1\n";
 
 const BALL_TETS_FROM_ONE: &[u8] = b"24 4 0\n\
 1 1 2 3 8\n\
@@ -158,8 +157,8 @@ fn add_ball(text: &mut Vec<u8>, line: &[u8]) -> Result<(), AllocError> {
     Ok(())
 }
 
-/// The .node text of a field.
-pub fn node_text(alloc: Global, field: &[u8]) -> Result<Vec<u8>, AllocError> {
+// The .node text of a field.
+fn node_text(alloc: Global, field: &[u8]) -> Result<Vec<u8>, AllocError> {
     let mut text = Vec::new(alloc);
     match field {
         b"ball" => text.extend_from_slice(BALL_NODES)?,
@@ -170,8 +169,8 @@ pub fn node_text(alloc: Global, field: &[u8]) -> Result<Vec<u8>, AllocError> {
     Ok(text)
 }
 
-/// The .ele text of a field.
-pub fn ele_text(alloc: Global, field: &[u8]) -> Result<Vec<u8>, AllocError> {
+// The .ele text of a field.
+fn ele_text(alloc: Global, field: &[u8]) -> Result<Vec<u8>, AllocError> {
     let mut text = Vec::new(alloc);
     match field {
         b"ball" => text.extend_from_slice(BALL_TETS)?,
@@ -182,25 +181,16 @@ pub fn ele_text(alloc: Global, field: &[u8]) -> Result<Vec<u8>, AllocError> {
     Ok(text)
 }
 
-/// How the files that a desk has under `node` and `ele` are judged: the answer, and whether it is of
-/// the second file.
-pub fn judged(alloc: Global, desk: &mut MemDesk) -> (bool, Result<Verdict, MeshFault>) {
-    if desk.open_input(b"node").is_err() {
-        return (false, Err(MeshFault::ReadFault));
-    }
-    let nodes = match read_nodes(alloc, desk) {
-        Ok(nodes) => nodes,
-        Err(fault) => return (false, Err(fault)),
+/// A desk that holds the texts of two fields as `out.node` and `out.ele`.
+pub fn desk_of(alloc: Global, node: &[u8], ele: &[u8]) -> Result<MemDesk, NoMemory> {
+    let mut desk = MemDesk::new(alloc);
+    let Ok(node) = node_text(alloc, node) else {
+        return Err(NoMemory);
     };
-    if desk.open_input(b"ele").is_err() {
-        return (true, Err(MeshFault::ReadFault));
-    }
-    let tets = match read_tets(alloc, desk, &nodes) {
-        Ok(tets) => tets,
-        Err(fault) => return (true, Err(fault)),
+    let Ok(ele) = ele_text(alloc, ele) else {
+        return Err(NoMemory);
     };
-    match audit(alloc, &nodes, &tets) {
-        Ok(verdict) => (true, Ok(verdict)),
-        Err(_) => (true, Err(MeshFault::NoMemory)),
-    }
+    desk.put_input(b"out.node", &node)?;
+    desk.put_input(b"out.ele", &ele)?;
+    Ok(desk)
 }

@@ -3,7 +3,7 @@ use Rattle.std.specs.Prelude.{◌≡◌, ℕ, ◌+◌, ◌-◌, ◌*◌, ◌^◌
 use Rattle.std.specs.List.{AllZip, list_any, list_all}
 use Rattle.definitions.specs.States.{Shares}
 use Rattle.command_line.specs.declared.Name.{Name}
-use Rattle.command_line.specs.declared.Name.TheVariants.{Level, Below, Step, Long, Short, Workers, Slab, Size, Seed}
+use Rattle.command_line.specs.declared.Name.TheVariants.{Level, Below, Step, Long, Short, Workers, Slab, First, Units, Size, Seed}
 use Rattle.command_line.specs.declared.Verb.{Verb}
 use Rattle.command_line.specs.declared.Verb.TheVariants.{Count, Mesh, Demo}
 use Rattle.command_line.specs.declared.Plan.{Plan}
@@ -17,8 +17,10 @@ name_number Long = 3
 name_number Short = 4
 name_number Workers = 5
 name_number Slab = 6
-name_number Size = 7
-name_number Seed = 8
+name_number First = 7
+name_number Units = 8
+name_number Size = 9
+name_number Seed = 10
 
 abbrev pub same_name : Name → Name → Bool
 same_name a b = name_number a == name_number b
@@ -31,6 +33,8 @@ name_text Long = codes "long="
 name_text Short = codes "short="
 name_text Workers = codes "workers="
 name_text Slab = codes "slab="
+name_text First = codes "first="
+name_text Units = codes "units="
 name_text Size = codes "size="
 name_text Seed = codes "seed="
 
@@ -48,6 +52,10 @@ abbrev pub IsLevel : List ℕ → ℤ → Type 0
 IsLevel text twice =
     (m : ℕ) × ((IsHalves text m × (twice ≡ pos m)) ⊎ ((rest : List ℕ) × (text ≡ codes "-" ++ rest) × IsHalves rest m × (twice ≡ neg_ℤ (pos m))))
 
+-- The text is `index`, which is 0, or `world`, which is 1.
+abbrev pub IsUnits : List ℕ → ℤ → Type 0
+IsUnits text value = ((text ≡ codes "index") × (value ≡ pos 0)) ⊎ ((text ≡ codes "world") × (value ≡ pos 1))
+
 -- What may stand behind a name, and the number that it says.
 abbrev pub IsValue : Name → List ℕ → ℤ → Type 0
 IsValue Level text value = IsLevel text value
@@ -57,6 +65,8 @@ IsValue Long text value = IsNumber 0 1023 text value
 IsValue Short text value = IsNumber 0 2047 text value
 IsValue Workers text value = IsNumber 1 64 text value
 IsValue Slab text value = IsNumber 1 64 text value
+IsValue First text value = IsNumber 0 1 text value
+IsValue Units text value = IsUnits text value
 IsValue Size text value = IsNumber 1 128 text value
 IsValue Seed text value = IsNumber 0 (2 ^ 64 - 1) text value
 
@@ -89,7 +99,7 @@ required Demo = Size ∷ Seed ∷ []
 
 abbrev pub optional : Verb → List Name
 optional Count = Below ∷ Step ∷ []
-optional Mesh = Below ∷ Step ∷ Long ∷ Short ∷ Workers ∷ Slab ∷ []
+optional Mesh = Below ∷ Step ∷ Long ∷ Short ∷ Workers ∷ Slab ∷ First ∷ Units ∷ []
 optional Demo = Workers ∷ Slab ∷ []
 
 abbrev pub is_among : List Name → Name → Bool
@@ -127,15 +137,41 @@ pub record IsPlan (plan : Plan) : Type 0 where
   pub some_slab : 1 ≤ plan.slab
   pub most_slab : plan.slab ≤ 64
 
--- A command. File names are the numbers of their words, and a level is given as twice the level. A demo is of a volume that is made from a size and a seed.
+-- What a mesh is made of, and how its files are written. File names are the numbers of their words, and a level is given as twice the level. Nodes and tetrahedra are numbered from `numbering`, and coordinates are in the volume's own units where `world` is set.
+pub record Meshing : Type 0 where
+  pub input : ℕ
+  pub output : ℕ
+  pub level : ℤ
+  pub below : Bool
+  pub step : ℕ
+  pub shares : Shares
+  pub plan : Plan
+  pub numbering : ℕ
+  pub world : Bool
+
+-- A command. A demo is of a volume that is made from a size and a seed.
 pub data Command : Type 0 where
   CountSigns : (input : ℕ) (level : ℤ) (below : Bool) (step : ℕ) → Command
-  MakeMesh : (input output : ℕ) (level : ℤ) (below : Bool) (step : ℕ) (shares : Shares) (plan : Plan) → Command
+  MakeMesh : Meshing → Command
   MakeDemo : (size seed : ℕ) (plan : Plan) → Command
+
+abbrev pub meshing_with : List Setting → Meshing
+meshing_with s =
+    record {
+      input = 1;
+      output = 2;
+      level = value_or s Level (pos 0);
+      below = is_set s Below;
+      step = number_or s Step 1;
+      shares = shares_of s;
+      plan = plan_of s;
+      numbering = number_or s First 0;
+      world = number_or s Units 0 == 1;
+    }
 
 abbrev pub command_of : Verb → List Setting → Command
 command_of Count s = CountSigns 1 (value_or s Level (pos 0)) (is_set s Below) (number_or s Step 1)
-command_of Mesh s = MakeMesh 1 2 (value_or s Level (pos 0)) (is_set s Below) (number_or s Step 1) (shares_of s) (plan_of s)
+command_of Mesh s = MakeMesh (meshing_with s)
 command_of Demo s = MakeDemo (number_or s Size 1) (number_or s Seed 0) (plan_of s)
 
 -- A list of words reads as a command: the verb, the file names, and named words in any order.

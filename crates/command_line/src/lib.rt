@@ -20,6 +20,8 @@ pub enum Name {
     Short,
     Workers,
     Slab,
+    First,
+    Units,
     Size,
     Seed,
 }

@@ -5,12 +5,13 @@ use Rattle.std.specs.List.{AllZip, starts_with}
 use Rattle.std.proofs.lemmas.Bool.{eq-eqb, eqb-true, cases_lt}
 use Rattle.std.proofs.lemmas.Fmt.{decimal_injective, decimal_digit}
 use Rattle.command_line.specs.declared.Name.{Name}
-use Rattle.command_line.specs.declared.Name.TheVariants.{Level, Below, Step, Long, Short, Workers, Slab, Size, Seed}
-use Rattle.command_line.specs.Grammar.{Setting, ReadsSetting, IsNumber, IsValue, name_number, same_name, name_text}
+use Rattle.command_line.specs.declared.Name.TheVariants.{Level, Below, Step, Long, Short, Workers, Slab, First, Units, Size, Seed}
+use Rattle.command_line.specs.Grammar.{Setting, ReadsSetting, IsNumber, IsUnits, IsValue, name_number, same_name, name_text}
 use Rattle.command_words.proofs.Decimals.{level_once}
+use Rattle.command_words.proofs.TextEnds.{other_first}
 
 abbrev pub all_names : List Name
-all_names = Level ∷ Below ∷ Step ∷ Long ∷ Short ∷ Workers ∷ Slab ∷ Size ∷ Seed ∷ []
+all_names = Level ∷ Below ∷ Step ∷ Long ∷ Short ∷ Workers ∷ Slab ∷ First ∷ Units ∷ Size ∷ Seed ∷ []
 
 -- a name by its number
 pub name_at : (n other : Name) → slice_index_or all_names (name_number n) other ≡ n
@@ -21,10 +22,12 @@ name_at Long other = refl
 name_at Short other = refl
 name_at Workers other = refl
 name_at Slab other = refl
+name_at First other = refl
+name_at Units other = refl
 name_at Size other = refl
 name_at Seed other = refl
 
-pub name_below : (n : Name) → name_number n < 9
+pub name_below : (n : Name) → name_number n < 11
 name_below Level = omega arith
 name_below Below = omega arith
 name_below Step = omega arith
@@ -32,6 +35,8 @@ name_below Long = omega arith
 name_below Short = omega arith
 name_below Workers = omega arith
 name_below Slab = omega arith
+name_below First = omega arith
+name_below Units = omega arith
 name_below Size = omega arith
 name_below Seed = omega arith
 
@@ -56,6 +61,8 @@ name_reads Long text = refl
 name_reads Short text = refl
 name_reads Workers text = refl
 name_reads Slab text = refl
+name_reads First text = refl
+name_reads Units text = refl
 name_reads Size text = refl
 name_reads Seed text = refl
 
@@ -67,12 +74,23 @@ tail_reads Long text = refl
 tail_reads Short text = refl
 tail_reads Workers text = refl
 tail_reads Slab text = refl
+tail_reads First text = refl
+tail_reads Units text = refl
 tail_reads Size text = refl
 tail_reads Seed text = refl
 
 -- a text is one value at most
 number_once : (low high : ℕ) (text : List ℕ) (a b : ℤ) → high < 2 ^ 64 → IsNumber low high text a → IsNumber low high text b → a ≡ b
 number_once low high text a b h (n, l, u, e, f) (m, k, v, g, i) = f ∙ ap pos (decimal_injective n m (omega arith) (omega arith) (sym e ∙ g)) ∙ sym i
+
+two_units : (text : List ℕ) → text ≡ codes "index" → text ≡ codes "world" → ⊥
+two_units text e f = other_first (codes "index") (codes "world") 105 119 refl refl (omega arith) (sym e ∙ f)
+
+units_once : (text : List ℕ) (a b : ℤ) → IsUnits text a → IsUnits text b → a ≡ b
+units_once text a b (inl (e, f)) (inl (g, h)) = f ∙ sym h
+units_once text a b (inl (e, f)) (inr (g, h)) = absurd (two_units text e g)
+units_once text a b (inr (e, f)) (inl (g, h)) = absurd (two_units text g e)
+units_once text a b (inr (e, f)) (inr (g, h)) = f ∙ sym h
 
 value_once : (n : Name) (text : List ℕ) (a b : ℤ) → IsValue n text a → IsValue n text b → a ≡ b
 value_once Level text a b p q = level_once text a b p q
@@ -82,6 +100,8 @@ value_once Long text a b p q = number_once 0 1023 text a b (omega arith) p q
 value_once Short text a b p q = number_once 0 2047 text a b (omega arith) p q
 value_once Workers text a b p q = number_once 1 64 text a b (omega arith) p q
 value_once Slab text a b p q = number_once 1 64 text a b (omega arith) p q
+value_once First text a b p q = number_once 0 1 text a b (omega arith) p q
+value_once Units text a b p q = units_once text a b p q
 value_once Size text a b p q = number_once 1 128 text a b (omega arith) p q
 value_once Seed text a b p q = number_once 0 (2 ^ 64 - 1) text a b (omega arith) p q
 
@@ -140,6 +160,8 @@ sample_text Long = codes "1"
 sample_text Short = codes "1"
 sample_text Workers = codes "1"
 sample_text Slab = codes "1"
+sample_text First = codes "1"
+sample_text Units = codes "world"
 sample_text Size = codes "1"
 sample_text Seed = codes "1"
 
@@ -151,6 +173,8 @@ sample_value Long = pos 1
 sample_value Short = pos 1
 sample_value Workers = pos 1
 sample_value Slab = pos 1
+sample_value First = pos 1
+sample_value Units = pos 1
 sample_value Size = pos 1
 sample_value Seed = pos 1
 
@@ -162,6 +186,8 @@ sample_is Long = (1, omega arith, omega arith, sym (decimal_digit 1 (omega arith
 sample_is Short = (1, omega arith, omega arith, sym (decimal_digit 1 (omega arith)), refl)
 sample_is Workers = (1, omega arith, omega arith, sym (decimal_digit 1 (omega arith)), refl)
 sample_is Slab = (1, omega arith, omega arith, sym (decimal_digit 1 (omega arith)), refl)
+sample_is First = (1, omega arith, omega arith, sym (decimal_digit 1 (omega arith)), refl)
+sample_is Units = inr (refl, refl)
 sample_is Size = (1, omega arith, omega arith, sym (decimal_digit 1 (omega arith)), refl)
 sample_is Seed = (1, omega arith, omega arith, sym (decimal_digit 1 (omega arith)), refl)
 

@@ -1,6 +1,6 @@
 -- The commands of the grammar, and the places at which words are bad.
 use Rattle.std.proofs.Common.{◌≡◌, inl, inr, ℕ, ℤ, pos, ◌+◌, ◌-◌, ◌<◌, ◌≤◌, zero, suc, List, [], ◌∷◌, ◌++◌, length, take, drop, append_assoc, length-append, Bool, true, false, Option, Some, None, refl, ap, sym, ◌∙◌, subst, arith, slice_index_or, add-one}
-use Rattle.std.specs.Prelude.{IsTrue, ◌&&◌, nat_lt, option_map, option_and_then, unwrap_or, unsigned_abs, is_some, if◌then◌else◌, IfSome}
+use Rattle.std.specs.Prelude.{IsTrue, ◌&&◌, ◌==◌, nat_lt, option_map, option_and_then, unwrap_or, unsigned_abs, is_some, if◌then◌else◌, IfSome}
 use Rattle.std.specs.Str.{bytes_eq}
 use Rattle.std.proofs.Math.Seq.{take-suc, take-length, take-append-add}
 use Rattle.std.proofs.lemmas.Bool.{cases_lt}
@@ -10,16 +10,17 @@ use Rattle.std.proofs.lemmas.List.Folds.{list_all-append}
 use Rattle.std.proofs.lemmas.Slice.Eq.{bytes_eq-Decides}
 use Rattle.std.specs.List.{AllZip, list_all}
 use Rattle.command_line.specs.declared.Name.{Name}
-use Rattle.command_line.specs.declared.Name.TheVariants.{Level, Below, Step, Long, Short, Workers, Slab, Size, Seed}
+use Rattle.command_line.specs.declared.Name.TheVariants.{Level, Below, Step, Long, Short, Workers, Slab, First, Units, Size, Seed}
 use Rattle.command_line.specs.declared.Verb.{Verb}
 use Rattle.command_line.specs.declared.Verb.TheVariants.{Count, Mesh, Demo}
-use Rattle.command_line.specs.Grammar.{Setting, ReadsSetting, IsComplete, Reads, Command, Begins, IsBadPlace, IsPlan, CountSigns, MakeMesh, MakeDemo, command_of, is_set, number_or, shares_of, plan_of as plan_of_settings, value_or, verb_text, file_count, required}
+use Rattle.command_line.specs.Grammar.{Setting, ReadsSetting, IsComplete, Reads, Command, Meshing, Begins, IsBadPlace, IsPlan, CountSigns, MakeMesh, MakeDemo, command_of, meshing_with, is_set, number_or, shares_of, plan_of as plan_of_settings, value_or, verb_text, file_count, required}
 use Rattle.command_words.specs.declared.settings.Seen.{Seen}
 use Rattle.command_words.specs.declared.command.Command.{Command as Found}
 use Rattle.command_words.specs.declared.command.Command.TheVariants as found
 use Rattle.command_words.specs.Commands.{is_word, is_name, HasVerb, AreNames, IsBadName, IsSourceWithin, command_seen, meaning_of, source_of, step_of, mesh_of, plan_of, plan_seen, shares_seen}
-use Rattle.command_words.specs.Settings.{held, value_of, IsSettled, IsTaken, IsStuck, IsStop}
+use Rattle.command_words.specs.Settings.{held, units_value, value_of, IsSettled, IsTaken, IsStuck, IsStop}
 use Rattle.command_words.proofs.NamedWords.{settings_once}
+use Rattle.command_words.proofs.TextEnds.{other_first}
 use Rattle.command_words.proofs.Settled.{set_is, settled_none, filled, stuck_none, number_between, left_of, right_of, both}
 
 -- the first word
@@ -33,21 +34,15 @@ first_is (w ∷ ws) text h =
     (ws, ap (λ (u : List ℕ). u ∷ ws) (other_text w text t))
 
 -- commands are told apart by their words
-abbrev first_byte : List ℕ → ℕ
-first_byte text = slice_index_or text 0 0
-
-not_first_byte : (a b : List ℕ) (m n : ℕ) → first_byte a ≡ m → first_byte b ≡ n → m < n → a ≡ b → ⊥
-not_first_byte a b m n p q lt e = let f : first_byte a ≡ first_byte b = ap first_byte e in omega arith
-
 same_verb : (u v : Verb) → verb_text u ≡ verb_text v → u ≡ v
 same_verb Count Count e = refl
 same_verb Count Mesh e = cc
 same_verb Count Demo e = cc
 same_verb Mesh Count e = cc
 same_verb Mesh Mesh e = refl
-same_verb Mesh Demo e = absurd (not_first_byte (verb_text Demo) (verb_text Mesh) 100 109 refl refl (omega arith) (sym e))
+same_verb Mesh Demo e = absurd (other_first (verb_text Demo) (verb_text Mesh) 100 109 refl refl (omega arith) (sym e))
 same_verb Demo Count e = cc
-same_verb Demo Mesh e = absurd (not_first_byte (verb_text Demo) (verb_text Mesh) 100 109 refl refl (omega arith) e)
+same_verb Demo Mesh e = absurd (other_first (verb_text Demo) (verb_text Mesh) 100 109 refl refl (omega arith) e)
 same_verb Demo Demo e = refl
 
 head_is : (v w : List ℕ) (xs ys : List (List ℕ)) → v ∷ xs ≡ w ∷ ys → v ≡ w
@@ -335,6 +330,15 @@ number_is : (default : ℕ) (o : Option ℕ) (p : Option ℤ) → option_map pos
 number_is default None p e = ap (λ (q : Option ℤ). unsigned_abs (unwrap_or q (pos default))) e
 number_is default (Some n) p e = ap (λ (q : Option ℤ). unsigned_abs (unwrap_or q (pos default))) e
 
+world_is : (o : Option Bool) (p : Option ℤ) → option_map units_value o ≡ p → unwrap_or o false ≡ (unsigned_abs (unwrap_or p (pos 0)) == 1)
+world_is None p e = ap (λ (q : Option ℤ). unsigned_abs (unwrap_or q (pos 0)) == 1) e
+world_is (Some true) p e = ap (λ (q : Option ℤ). unsigned_abs (unwrap_or q (pos 0)) == 1) e
+world_is (Some false) p e = ap (λ (q : Option ℤ). unsigned_abs (unwrap_or q (pos 0)) == 1) e
+
+abbrev meshing_seen : ℤ → Seen → Meshing
+meshing_seen level seen =
+    record { input = 1; output = 2; level = level; below = seen.below; step = unwrap_or seen.step 1; shares = shares_seen seen; plan = plan_seen seen; numbering = unwrap_or seen.first 0; world = unwrap_or seen.world false }
+
 -- the command that was seen is that of the settings, and all are there that must be
 record IsSeen (v : Verb) (ss : List Setting) (c : Found) : Type 0 where
   means : meaning_of c ≡ command_of v ss
@@ -367,6 +371,16 @@ module _ (v : Verb) (named : List (List ℕ)) (seen : Seen) (t : IsTaken v named
   plan_is : plan_seen seen ≡ plan_of_settings t.settings
   plan_is = λ i. record { workers = number_is 4 seen.workers (value_of t.settings Workers) (t.held_are Workers) i; slab = number_is 4 seen.slab (value_of t.settings Slab) (t.held_are Slab) i }
 
+  numbering_is : unwrap_or seen.first 0 ≡ number_or t.settings First 0
+  numbering_is = number_is 0 seen.first (value_of t.settings First) (t.held_are First)
+
+  world_seen : unwrap_or seen.world false ≡ (number_or t.settings Units 0 == 1)
+  world_seen = world_is seen.world (value_of t.settings Units) (t.held_are Units)
+
+  meshing_is : (level : ℤ) → seen.level ≡ Some level → meshing_seen level seen ≡ meshing_with t.settings
+  meshing_is level e =
+      λ i. record { input = 1; output = 2; level = level_is level e i; below = below_seen i; step = step_is i; shares = shares_are i; plan = plan_is i; numbering = numbering_is i; world = world_seen i }
+
   size_is : (size : ℕ) → seen.size ≡ Some size → size ≡ number_or t.settings Size 1
   size_is size e = ap (λ (o : Option ℕ). unwrap_or o 1) (sym e) ∙ number_is 1 seen.size (value_of t.settings Size) (t.held_are Size)
 
@@ -383,7 +397,7 @@ seen_is Count named seen c t e =
 seen_is Mesh named seen c t e =
     let r = from_some_map _ seen.level c e in
     record {
-      means = ap meaning_of (sym r.2) ∙ (λ i. MakeMesh 1 2 (level_is Mesh named seen t r.0 r.1 i) (below_seen Mesh named seen t i) (step_is Mesh named seen t i) (shares_are Mesh named seen t i) (plan_is Mesh named seen t i));
+      means = ap meaning_of (sym r.2) ∙ ap MakeMesh (meshing_is Mesh named seen t r.0 r.1);
       there = both (is_set t.settings Level) true (set_by Mesh named seen t Level r.0 r.1) refl;
     }
 seen_is Demo named seen c t e =
@@ -422,6 +436,9 @@ plan_within v named seen t =
 pub size_within : (v : Verb) (named : List (List ℕ)) (seen : Seen) → IsTaken v named seen → (1 ≤ unwrap_or seen.size 1) × (unwrap_or seen.size 1 ≤ 128)
 size_within v named seen t = number_between Size 1 128 1 named t.settings seen.size (λ text value h. h) (omega arith) (omega arith) t.settled.named_are (t.held_are Size)
 
+pub numbering_within : (v : Verb) (named : List (List ℕ)) (seen : Seen) → IsTaken v named seen → unwrap_or seen.first 0 ≤ 1
+numbering_within v named seen t = (number_between First 0 1 0 named t.settings seen.first (λ text value h. h) (omega arith) (omega arith) t.settled.named_are (t.held_are First)).1
+
 -- what a command that was seen says
 pub step_seen : (v : Verb) (seen : Seen) (c : Found) → command_seen v seen ≡ Some c → (1 ≤ unwrap_or seen.step 1) × (unwrap_or seen.step 1 ≤ 64) → (1 ≤ step_of c) × (step_of c ≤ 64)
 step_seen Count seen c e h = let r = from_some_map _ seen.level c e in subst (λ (d : Found). (1 ≤ step_of d) × (step_of d ≤ 64)) r.2 h
@@ -457,6 +474,14 @@ output_seen Demo ws seen c o e =
     let q = from_some_then (λ size. option_map (λ seed. found.Demo size seed (plan_seen seen)) seen.seed) seen.size c e in
     let r = from_some_map (λ seed. found.Demo q.0 seed (plan_seen seen)) seen.seed c q.2 in
     subst (λ (d : Found). IfSome (mesh_of d) (λ m. m.output < length ws)) r.2 tt
+
+pub numbering_seen : (v : Verb) (seen : Seen) (c : Found) → command_seen v seen ≡ Some c → unwrap_or seen.first 0 ≤ 1 → IfSome (mesh_of c) (λ m. m.numbering ≤ 1)
+numbering_seen Count seen c e h = let r = from_some_map _ seen.level c e in subst (λ (d : Found). IfSome (mesh_of d) (λ m. m.numbering ≤ 1)) r.2 tt
+numbering_seen Mesh seen c e h = let r = from_some_map _ seen.level c e in subst (λ (d : Found). IfSome (mesh_of d) (λ m. m.numbering ≤ 1)) r.2 h
+numbering_seen Demo seen c e h =
+    let q = from_some_then (λ size. option_map (λ seed. found.Demo size seed (plan_seen seen)) seen.seed) seen.size c e in
+    let r = from_some_map (λ seed. found.Demo q.0 seed (plan_seen seen)) seen.seed c q.2 in
+    subst (λ (d : Found). IfSome (mesh_of d) (λ m. m.numbering ≤ 1)) r.2 tt
 
 -- A list reads as one command at most, and words are bad at one place at most.
 pub one_command : (ws : List (List ℕ)) (c d : Command) → Reads ws c → Reads ws d → c ≡ d

@@ -1,5 +1,5 @@
 -- The two ends of a text.
-use Rattle.std.proofs.Common.{◌≡◌, ◌≢◌, ◌-◌, List, ℕ, [], ◌∷◌, ◌++◌, length, take, drop, true, false, refl, ap, sym, ◌∙◌, arith, length-append}
+use Rattle.std.proofs.Common.{◌≡◌, ◌≢◌, ◌-◌, ◌<◌, slice_index_or, List, ℕ, [], ◌∷◌, ◌++◌, length, take, drop, true, false, refl, ap, sym, ◌∙◌, arith, length-append}
 use Rattle.std.proofs.lemmas.Slice.Eq.{bytes_eq-Decides}
 use Rattle.std.specs.Str.{bytes_eq}
 use Rattle.std.proofs.lemmas.List.{take_at, drop_at, append_cancel_right}
@@ -32,3 +32,10 @@ other_end xs ys a b ne e =
     let y : drop (length xs) (ys ++ 46 ∷ b ∷ []) ≡ 46 ∷ b ∷ [] = drop_at ys (46 ∷ b ∷ []) (length xs) (sym l) in
     let t : 46 ∷ a ∷ [] ≡ 46 ∷ b ∷ [] = sym x ∙ ap (drop (length xs)) e ∙ y in
     ne cc
+
+-- two texts with other first bytes
+abbrev first_byte : List ℕ → ℕ
+first_byte text = slice_index_or text 0 0
+
+pub other_first : (a b : List ℕ) (m n : ℕ) → first_byte a ≡ m → first_byte b ≡ n → m < n → a ≡ b → ⊥
+other_first a b m n p q lt e = let f : first_byte a ≡ first_byte b = ap first_byte e in omega arith

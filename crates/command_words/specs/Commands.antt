@@ -15,13 +15,14 @@ use Rattle.command_words.specs.declared.settings.Seen.{Seen}
 
 abbrev pub meaning_of : Command → Meaning
 meaning_of (Count input level below step) = CountSigns input level below step
-meaning_of (Mesh input output level below step shares plan) = MakeMesh input output level below step shares plan
+meaning_of (Mesh input output level below step shares plan numbering world) =
+    MakeMesh (record { input = input; output = output; level = level; below = below; step = step; shares = shares; plan = plan; numbering = numbering; world = world })
 meaning_of (Demo size seed plan) = MakeDemo size seed plan
 
 -- where its volume is from
 abbrev pub source_of : Command → Source
 source_of (Count input level below step) = File input
-source_of (Mesh input output level below step shares plan) = File input
+source_of (Mesh input output level below step shares plan numbering world) = File input
 source_of (Demo size seed plan) = Phantom size seed
 
 -- the word that names the input is there, or the size is within its limits
@@ -32,37 +33,43 @@ IsSourceWithin (Phantom size seed) count = (1 ≤ size) × (size ≤ 128)
 -- twice its level
 abbrev pub level_of : Command → ℤ
 level_of (Count input level below step) = level
-level_of (Mesh input output level below step shares plan) = level
+level_of (Mesh input output level below step shares plan numbering world) = level
 level_of (Demo size seed plan) = pos 399
 
 -- whether it speaks of the region below the level
 abbrev pub below_of : Command → Bool
 below_of (Count input level below step) = below
-below_of (Mesh input output level below step shares plan) = below
+below_of (Mesh input output level below step shares plan numbering world) = below
 below_of (Demo size seed plan) = false
 
 -- its step, in samples
 abbrev pub step_of : Command → ℕ
 step_of (Count input level below step) = step
-step_of (Mesh input output level below step shares plan) = step
+step_of (Mesh input output level below step shares plan numbering world) = step
 step_of (Demo size seed plan) = 1
+
+-- whether its coordinates are in the volume's own units
+abbrev pub world_of : Command → Bool
+world_of (Count input level below step) = false
+world_of (Mesh input output level below step shares plan numbering world) = world
+world_of (Demo size seed plan) = false
 
 -- what a mesh alone has
 abbrev pub mesh_of : Command → Option MeshSettings
 mesh_of (Count input level below step) = None
-mesh_of (Mesh input output level below step shares plan) = Some (record { output = output; shares = shares; plan = plan })
+mesh_of (Mesh input output level below step shares plan numbering world) = Some (record { output = output; shares = shares; plan = plan; numbering = numbering; world = world })
 mesh_of (Demo size seed plan) = None
 
 -- how its work is shared out
 abbrev pub plan_of : Command → Option Plan
 plan_of (Count input level below step) = None
-plan_of (Mesh input output level below step shares plan) = Some plan
+plan_of (Mesh input output level below step shares plan numbering world) = Some plan
 plan_of (Demo size seed plan) = Some plan
 
 -- the same, and the usual way where there is none
 abbrev pub plan_with : Command → Plan
 plan_with (Count input level below step) = record { workers = 4; slab = 4 }
-plan_with (Mesh input output level below step shares plan) = plan
+plan_with (Mesh input output level below step shares plan numbering world) = plan
 plan_with (Demo size seed plan) = plan
 
 abbrev pub shares_seen : Seen → Shares
@@ -74,7 +81,7 @@ plan_seen seen = record { workers = unwrap_or seen.workers 4; slab = unwrap_or s
 -- the command of a verb, by what its named words set, if all are there that must be
 abbrev pub command_seen : Verb → Seen → Option Command
 command_seen verb.Count seen = option_map (λ level. Count 1 level seen.below (unwrap_or seen.step 1)) seen.level
-command_seen verb.Mesh seen = option_map (λ level. Mesh 1 2 level seen.below (unwrap_or seen.step 1) (shares_seen seen) (plan_seen seen)) seen.level
+command_seen verb.Mesh seen = option_map (λ level. Mesh 1 2 level seen.below (unwrap_or seen.step 1) (shares_seen seen) (plan_seen seen) (unwrap_or seen.first 0) (unwrap_or seen.world false)) seen.level
 command_seen verb.Demo seen = option_and_then (λ size. option_map (λ seed. Demo size seed (plan_seen seen)) seen.seed) seen.size
 
 -- word n is this text

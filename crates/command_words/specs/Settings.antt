@@ -4,11 +4,15 @@ use Rattle.std.specs.List.{AllZip, list_all}
 use Rattle.std.specs.Option.{option_or}
 use Rattle.command_line.specs.Grammar.{Setting, ReadsSetting, is_among, is_of, same_name, required, optional}
 use Rattle.command_line.specs.declared.Name.{Name}
-use Rattle.command_line.specs.declared.Name.TheVariants.{Level, Below, Step, Long, Short, Workers, Slab, Size, Seed}
+use Rattle.command_line.specs.declared.Name.TheVariants.{Level, Below, Step, Long, Short, Workers, Slab, First, Units, Size, Seed}
 use Rattle.command_line.specs.declared.Verb.{Verb}
 use Rattle.command_words.specs.declared.settings.Setting.{Setting as Choice}
 use Rattle.command_words.specs.declared.settings.Setting.TheVariants as choice
 use Rattle.command_words.specs.declared.settings.Seen.{Seen}
+
+-- Units as a number: 0 is index, 1 is world.
+abbrev pub units_value : Bool → ℤ
+units_value world = if world then pos 1 else pos 0
 
 -- what a named word sets
 abbrev pub setting_of : Choice → Setting
@@ -19,6 +23,8 @@ setting_of (choice.Long n) = record { name = Long; value = pos n }
 setting_of (choice.Short n) = record { name = Short; value = pos n }
 setting_of (choice.Workers n) = record { name = Workers; value = pos n }
 setting_of (choice.Slab n) = record { name = Slab; value = pos n }
+setting_of (choice.First n) = record { name = First; value = pos n }
+setting_of (choice.World world) = record { name = Units; value = units_value world }
 setting_of (choice.Size n) = record { name = Size; value = pos n }
 setting_of (choice.Seed n) = record { name = Seed; value = pos n }
 
@@ -31,6 +37,8 @@ held seen Long = option_map pos seen.long
 held seen Short = option_map pos seen.short
 held seen Workers = option_map pos seen.workers
 held seen Slab = option_map pos seen.slab
+held seen First = option_map pos seen.first
+held seen Units = option_map units_value seen.world
 held seen Size = option_map pos seen.size
 held seen Seed = option_map pos seen.seed
 

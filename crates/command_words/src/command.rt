@@ -1,5 +1,5 @@
 ghost use Rattle.std.specs.Prelude.{◌≡◌};
-ghost use Rattle.command_words.specs.Commands.{source_of, level_of, below_of, step_of, mesh_of, plan_with};
+ghost use Rattle.command_words.specs.Commands.{source_of, level_of, below_of, step_of, world_of, mesh_of, plan_with};
 
 use command_line::Plan;
 use samples::Level;
@@ -24,6 +24,8 @@ pub enum Command {
         step: u32,
         shares: Shares,
         plan: Plan,
+        numbering: u32,
+        world: bool,
     },
     /// Count the signs of a volume that is made from a number, and tell of its mesh; at level 199.5.
     Demo {
@@ -41,12 +43,15 @@ pub enum Source {
 }
 
 /// What `mesh` alone has: the number of the word that names the output, the shares within which a
-/// cut is near, and how the work is shared out.
+/// cut is near, how the work is shared out, the number from which nodes and tetrahedra are numbered, 0 or 1, and
+/// whether coordinates are in the volume's own units.
 #[derive(Clone, Copy)]
 pub struct MeshSettings {
     pub output: usize,
     pub shares: Shares,
     pub plan: Plan,
+    pub numbering: u32,
+    pub world: bool,
 }
 
 impl Command {
@@ -98,6 +103,16 @@ impl Command {
         }
     }
 
+    /// Whether its coordinates are in the volume's own units.
+    pub fn world(&self) -> bool
+        ensures { result ≡ world_of self.now }
+    {
+        match self {
+            Command::Count { .. } | Command::Demo { .. } => false,
+            Command::Mesh { world, .. } => *world,
+        }
+    }
+
     /// How its work is shared out, the usual way where nothing is to be shared out.
     pub fn plan(&self) -> Plan
         ensures { result ≡ plan_with self.now }
@@ -121,11 +136,15 @@ impl Command {
                 output,
                 shares,
                 plan,
+                numbering,
+                world,
                 ..
             } => Some(MeshSettings {
                 output: *output,
                 shares: *shares,
                 plan: *plan,
+                numbering: *numbering,
+                world: *world,
             }),
         }
     }

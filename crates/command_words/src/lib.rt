@@ -7,6 +7,7 @@ mod names;
 mod numbers;
 mod read;
 mod settings;
+mod units;
 mod verbs;
 
 pub use command::{Command, MeshSettings, Source};

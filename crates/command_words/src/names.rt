@@ -4,7 +4,7 @@ ghost use Rattle.command_line.specs.Grammar.{name_text as name_text_lem};
 use command_line::Name;
 
 /// All names of named words, in the order of their numbers.
-pub const NAMES: [Name; 9] = [
+pub const NAMES: [Name; 11] = [
     Name::Level,
     Name::Below,
     Name::Step,
@@ -12,6 +12,8 @@ pub const NAMES: [Name; 9] = [
     Name::Short,
     Name::Workers,
     Name::Slab,
+    Name::First,
+    Name::Units,
     Name::Size,
     Name::Seed,
 ];
@@ -28,6 +30,8 @@ pub fn name_text(name: Name) -> &'static [u8]
         Name::Short => b"short=",
         Name::Workers => b"workers=",
         Name::Slab => b"slab=",
+        Name::First => b"first=",
+        Name::Units => b"units=",
         Name::Size => b"size=",
         Name::Seed => b"seed=",
     }

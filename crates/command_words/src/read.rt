@@ -51,6 +51,8 @@ fn command_by(verb: Verb, seen: &Seen) -> Option<Command>
             step,
             shares: seen.shares(),
             plan: seen.plan(),
+            numbering: seen.first.unwrap_or(0),
+            world: seen.world.unwrap_or(false),
         }),
         Verb::Demo => Some(Command::Demo {
             size: seen.size?,
@@ -74,6 +76,7 @@ pub fn read_words(words: &Words) -> Result<Command, u64>
     ensures output { IfOk result (λ c. IfSome (mesh_of c) (λ m. m.output < length words.now)) }
     ensures step { IfOk result (λ c. (1 ≤ step_of c) × (step_of c ≤ 64)) }
     ensures plan { IfOk result (λ c. IfSome (plan_of c) IsPlan) }
+    ensures numbering { IfOk result (λ c. IfSome (mesh_of c) (λ m. m.numbering ≤ 1)) }
     ensures place { IfErr result (λ place. IsBadPlace words.now place) }
 {
     let Some(verb) = verb_of(words) else {

@@ -7,6 +7,7 @@ ghost use Rattle.command_words.specs.Settings.{setting_of, held, said, IsTakenAs
 use crate::ends::after_start;
 use crate::names::{NAMES, name_text};
 use crate::numbers::{any_number, level, number_within};
+use crate::units::is_world;
 use crate::verbs::is_known;
 use command_line::{Name, Plan, Verb};
 use samples::Level;
@@ -23,6 +24,8 @@ pub enum Setting {
     Short(u32),
     Workers(u32),
     Slab(u32),
+    First(u32),
+    World(bool),
     Size(u32),
     Seed(u64),
 }
@@ -37,6 +40,8 @@ pub struct Seen {
     pub short: Option<u32>,
     pub workers: Option<u32>,
     pub slab: Option<u32>,
+    pub first: Option<u32>,
+    pub world: Option<bool>,
     pub size: Option<u32>,
     pub seed: Option<u64>,
 }
@@ -56,6 +61,8 @@ fn read_value(name: Name, text: &[u8]) -> Option<Setting>
         Name::Short => Some(Setting::Short(number_within(text, 0, 2047)?)),
         Name::Workers => Some(Setting::Workers(number_within(text, 1, 64)?)),
         Name::Slab => Some(Setting::Slab(number_within(text, 1, 64)?)),
+        Name::First => Some(Setting::First(number_within(text, 0, 1)?)),
+        Name::Units => Some(Setting::World(is_world(text)?)),
         Name::Size => Some(Setting::Size(number_within(text, 1, 128)?)),
         Name::Seed => Some(Setting::Seed(any_number(text)?)),
     }
@@ -87,6 +94,8 @@ impl Setting {
             Setting::Short(_) => Name::Short,
             Setting::Workers(_) => Name::Workers,
             Setting::Slab(_) => Name::Slab,
+            Setting::First(_) => Name::First,
+            Setting::World(_) => Name::Units,
             Setting::Size(_) => Name::Size,
             Setting::Seed(_) => Name::Seed,
         }
@@ -106,6 +115,8 @@ impl Seen {
             short: None,
             workers: None,
             slab: None,
+            first: None,
+            world: None,
             size: None,
             seed: None,
         }
@@ -123,6 +134,8 @@ impl Seen {
             Name::Short => self.short.is_some(),
             Name::Workers => self.workers.is_some(),
             Name::Slab => self.slab.is_some(),
+            Name::First => self.first.is_some(),
+            Name::Units => self.world.is_some(),
             Name::Size => self.size.is_some(),
             Name::Seed => self.seed.is_some(),
         }
@@ -141,6 +154,8 @@ impl Seen {
             Setting::Short(share) => seen.short = Some(share),
             Setting::Workers(count) => seen.workers = Some(count),
             Setting::Slab(size) => seen.slab = Some(size),
+            Setting::First(first) => seen.first = Some(first),
+            Setting::World(world) => seen.world = Some(world),
             Setting::Size(size) => seen.size = Some(size),
             Setting::Seed(seed) => seen.seed = Some(seed),
         }

@@ -49,9 +49,7 @@ pub fn is_known(verb: Verb, name: Name) -> bool
     match verb {
         Verb::Count => match name {
             Name::Level | Name::Below | Name::Step => true,
-            Name::Long | Name::Short | Name::Workers | Name::Slab | Name::Size | Name::Seed => {
-                false
-            }
+            _ => false,
         },
         Verb::Mesh => match name {
             Name::Size | Name::Seed => false,

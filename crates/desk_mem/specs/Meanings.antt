@@ -2,7 +2,7 @@
 use Rattle.std.specs.Prelude.{◌≡◌, ℕ, List, Bool, Option, Some}
 use Rattle.st_base.specs.Desk.{InputState, PortState}
 use Rattle.st_base.specs.declared.Port.{Port}
-use Rattle.st_base.specs.declared.Port.TheVariants.{Node, Ele, Report, Trouble}
+use Rattle.st_base.specs.declared.Port.TheVariants.{Node, Ele, Report, Trouble, Face, Neigh}
 use Rattle.desk_mem.specs.HeldUnder.{held_under}
 use Rattle.desk_mem.specs.Parts.{input_state, port_state, names_of}
 use Rattle.desk_mem.specs.declared.mem.MemDesk.{MemDesk}
@@ -15,6 +15,8 @@ pub record MemState : Type 0 where
   pub ele : PortState
   pub report : PortState
   pub trouble : PortState
+  pub face : PortState
+  pub neigh : PortState
   pub tried : List (List ℕ)
 
 abbrev pub mem_state : MemDesk → MemState
@@ -24,6 +26,8 @@ mem_state desk = record {
   ele = port_state desk.ele;
   report = port_state desk.report;
   trouble = port_state desk.trouble;
+  face = port_state desk.face;
+  neigh = port_state desk.neigh;
   tried = names_of desk.tried.items;
 }
 
@@ -37,6 +41,8 @@ mem_ports desk Node = (mem_state desk).node
 mem_ports desk Ele = (mem_state desk).ele
 mem_ports desk Report = (mem_state desk).report
 mem_ports desk Trouble = (mem_state desk).trouble
+mem_ports desk Face = (mem_state desk).face
+mem_ports desk Neigh = (mem_state desk).neigh
 
 -- the names with which files were opened, which are told
 abbrev pub mem_tried : MemDesk → Option (List (List ℕ))
@@ -52,6 +58,8 @@ port_part desk Node = desk.node
 port_part desk Ele = desk.ele
 port_part desk Report = desk.report
 port_part desk Trouble = desk.trouble
+port_part desk Face = desk.face
+port_part desk Neigh = desk.neigh
 
 -- the number of bytes of an input after which reads fail
 abbrev pub input_limit : MemDesk → Option ℕ

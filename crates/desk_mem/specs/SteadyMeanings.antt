@@ -2,7 +2,7 @@
 use Rattle.std.specs.Prelude.{ℕ, List, drop, Option, Some, None}
 use Rattle.st_base.specs.Desk.{InputState, PortState}
 use Rattle.st_base.specs.declared.Port.{Port}
-use Rattle.st_base.specs.declared.Port.TheVariants.{Node, Ele, Report, Trouble}
+use Rattle.st_base.specs.declared.Port.TheVariants.{Node, Ele, Report, Trouble, Face, Neigh}
 use Rattle.desk_mem.specs.declared.steady.Length.{Length}
 use Rattle.desk_mem.specs.declared.steady.SteadyDesk.{SteadyDesk}
 
@@ -16,6 +16,8 @@ length_part desk Node = desk.node
 length_part desk Ele = desk.ele
 length_part desk Report = desk.report
 length_part desk Trouble = desk.trouble
+length_part desk Face = desk.face
+length_part desk Neigh = desk.neigh
 
 -- the ports: their texts and names are not told, and they have no fault
 abbrev pub steady_ports : SteadyDesk → Port → PortState

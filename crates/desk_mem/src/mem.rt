@@ -24,6 +24,8 @@ pub struct MemDesk {
     ele: MemPort,
     report: MemPort,
     trouble: MemPort,
+    face: MemPort,
+    neigh: MemPort,
     tried: Vec<Vec<u8>>,
     most: usize,
     ghost most_is_some: { 0 < most },
@@ -57,6 +59,8 @@ impl MemDesk {
             ele: MemPort::new(alloc, false),
             report: MemPort::new(alloc, true),
             trouble: MemPort::new(alloc, true),
+            face: MemPort::new(alloc, false),
+            neigh: MemPort::new(alloc, false),
             tried: Vec::new(alloc),
             most: usize::MAX,
         }
@@ -106,6 +110,8 @@ impl MemDesk {
             Port::Ele => self.ele.limit = limit,
             Port::Report => self.report.limit = limit,
             Port::Trouble => self.trouble.limit = limit,
+            Port::Face => self.face.limit = limit,
+            Port::Neigh => self.neigh.limit = limit,
         }
     }
 
@@ -131,6 +137,8 @@ impl MemDesk {
             Port::Ele => self.ele.refuse_open = true,
             Port::Report => self.report.refuse_open = true,
             Port::Trouble => self.trouble.refuse_open = true,
+            Port::Face => self.face.refuse_open = true,
+            Port::Neigh => self.neigh.refuse_open = true,
         }
     }
 
@@ -146,6 +154,8 @@ impl MemDesk {
             Port::Ele => self.ele.refuse_finish = true,
             Port::Report => self.report.refuse_finish = true,
             Port::Trouble => self.trouble.refuse_finish = true,
+            Port::Face => self.face.refuse_finish = true,
+            Port::Neigh => self.neigh.refuse_finish = true,
         }
     }
 
@@ -195,6 +205,8 @@ impl MemDesk {
             Port::Ele => &self.ele,
             Port::Report => &self.report,
             Port::Trouble => &self.trouble,
+            Port::Face => &self.face,
+            Port::Neigh => &self.neigh,
         }
     }
 }
@@ -232,6 +244,8 @@ impl Desk for MemDesk {
         match port {
             Port::Node => self.node.open(self.alloc, &mut self.tried, name),
             Port::Ele => self.ele.open(self.alloc, &mut self.tried, name),
+            Port::Face => self.face.open(self.alloc, &mut self.tried, name),
+            Port::Neigh => self.neigh.open(self.alloc, &mut self.tried, name),
             Port::Report | Port::Trouble => unreachable!(),
         }
     }
@@ -242,6 +256,8 @@ impl Desk for MemDesk {
             Port::Ele => self.ele.write(bytes, self.most),
             Port::Report => self.report.write(bytes, self.most),
             Port::Trouble => self.trouble.write(bytes, self.most),
+            Port::Face => self.face.write(bytes, self.most),
+            Port::Neigh => self.neigh.write(bytes, self.most),
         }
     }
 
@@ -251,6 +267,8 @@ impl Desk for MemDesk {
             Port::Ele => self.ele.finish(),
             Port::Report => self.report.finish(),
             Port::Trouble => self.trouble.finish(),
+            Port::Face => self.face.finish(),
+            Port::Neigh => self.neigh.finish(),
         }
     }
 }

@@ -44,6 +44,8 @@ pub struct SteadyDesk {
     ele: Length,
     report: Length,
     trouble: Length,
+    face: Length,
+    neigh: Length,
     ghost at_within: { at ≤ vec_len bytes },
 }
 
@@ -70,6 +72,8 @@ impl SteadyDesk {
             ele: Length::new(false),
             report: Length::new(true),
             trouble: Length::new(true),
+            face: Length::new(false),
+            neigh: Length::new(false),
         }
     }
 
@@ -82,6 +86,8 @@ impl SteadyDesk {
             Port::Ele => self.ele.written,
             Port::Report => self.report.written,
             Port::Trouble => self.trouble.written,
+            Port::Face => self.face.written,
+            Port::Neigh => self.neigh.written,
         }
     }
 
@@ -98,6 +104,8 @@ impl SteadyDesk {
             Port::Ele => self.ele.add(count),
             Port::Report => self.report.add(count),
             Port::Trouble => self.trouble.add(count),
+            Port::Face => self.face.add(count),
+            Port::Neigh => self.neigh.add(count),
         }
     }
 }
@@ -130,6 +138,8 @@ impl Desk for SteadyDesk {
         match port {
             Port::Node => self.node = Length::new(true),
             Port::Ele => self.ele = Length::new(true),
+            Port::Face => self.face = Length::new(true),
+            Port::Neigh => self.neigh = Length::new(true),
             Port::Report | Port::Trouble => unreachable!(),
         }
         Ok(())
@@ -146,6 +156,8 @@ impl Desk for SteadyDesk {
             Port::Ele => self.ele.is_open = false,
             Port::Report => self.report.is_open = false,
             Port::Trouble => self.trouble.is_open = false,
+            Port::Face => self.face.is_open = false,
+            Port::Neigh => self.neigh.is_open = false,
         }
         Ok(())
     }

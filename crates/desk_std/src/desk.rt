@@ -23,6 +23,8 @@ pub struct StdDesk<F: FileSystem + Drop, O: Write + Drop, E: Write + Drop> {
     ele: End<F::File>,
     report: End<O>,
     trouble: End<E>,
+    face: End<F::File>,
+    neigh: End<F::File>,
 }
 
 impl<F: FileSystem + Drop, O: Write + Drop, E: Write + Drop> StdDesk<F, O, E> {
@@ -44,6 +46,8 @@ impl<F: FileSystem + Drop, O: Write + Drop, E: Write + Drop> StdDesk<F, O, E> {
             ele: End::new(None),
             report: End::new(Some(report)),
             trouble: End::new(Some(trouble)),
+            face: End::new(None),
+            neigh: End::new(None),
         }
     }
 }
@@ -55,7 +59,9 @@ impl<F: FileSystem + Drop, O: Write + Drop, E: Write + Drop> Desk for StdDesk<F,
         (untold_port (is_some desk.node.file) desk.node.faults)
         (untold_port (is_some desk.ele.file) desk.ele.faults)
         (untold_port (is_some desk.report.file) desk.report.faults)
-        (untold_port (is_some desk.trouble.file) desk.trouble.faults) };
+        (untold_port (is_some desk.trouble.file) desk.trouble.faults)
+        (untold_port (is_some desk.face.file) desk.face.faults)
+        (untold_port (is_some desk.neigh.file) desk.neigh.faults) };
 
     ghost tried = { λ _. None };
 
@@ -75,6 +81,8 @@ impl<F: FileSystem + Drop, O: Write + Drop, E: Write + Drop> Desk for StdDesk<F,
         match port {
             Port::Node => self.node.open(opened),
             Port::Ele => self.ele.open(opened),
+            Port::Face => self.face.open(opened),
+            Port::Neigh => self.neigh.open(opened),
             Port::Report | Port::Trouble => unreachable!(),
         }
     }
@@ -85,6 +93,8 @@ impl<F: FileSystem + Drop, O: Write + Drop, E: Write + Drop> Desk for StdDesk<F,
             Port::Ele => self.ele.write(bytes),
             Port::Report => self.report.write(bytes),
             Port::Trouble => self.trouble.write(bytes),
+            Port::Face => self.face.write(bytes),
+            Port::Neigh => self.neigh.write(bytes),
         }
     }
 
@@ -94,6 +104,8 @@ impl<F: FileSystem + Drop, O: Write + Drop, E: Write + Drop> Desk for StdDesk<F,
             Port::Ele => self.ele.finish(),
             Port::Report => self.report.finish(),
             Port::Trouble => self.trouble.finish(),
+            Port::Face => self.face.finish(),
+            Port::Neigh => self.neigh.finish(),
         }
     }
 }

@@ -61,6 +61,8 @@ count one.mha level=0.5 below=yes step=65 | 2 | | stuff: bad words at 4;
 count none.mha level=0.5 | 7 | | stuff: read fault;
 count \xff level=0.5 | 7 | | stuff: read fault;
 mesh one.mha one level=0.5 workers=2 slab=1 | 0 | nodes 15;tetrahedra 24;least +1/4 tetrahedron 0 edge 1 7; |
+mesh one.mha one level=0.5 first=1 units=world | 0 | nodes 15;tetrahedra 24;least +1/4 tetrahedron 1 edge 2 8; |
+mesh one.mha one level=0.5 units=index first=2 | 2 | | stuff: bad words at 5;
 mesh one.mha no/one level=0.5 | 8 | | stuff: write fault: node;
 count one.node level=0.5 | 3 | | stuff: bad header line at byte 0;
 count one.ele level=0.5 | 3 | | stuff: bad header line at byte 0;

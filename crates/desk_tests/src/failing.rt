@@ -153,6 +153,11 @@ finish | flush | 2    | good    | ok
 finish | flush | 1000 | good    | ok
 finish | flush | 1001 | good    | failed
 finish | flush | 0    | bad     | failed
+face   | open  | 0    | bad     | not opened
+face   | write | 0    | good    | ok
+face   | write | 9    | nothing | failed
+neigh  | flush | 0    | good    | ok
+neigh  | flush | 0    | bad     | failed
 print  | write | 0    | good    | ok
 print  | write | 1000 | good    | ok
 print  | write | 1001 | good    | failed
@@ -211,6 +216,14 @@ fn answer(call: &[u8], plan: Plan) -> &'static [u8] {
         b"output" => told_end(desk.open_output(Port::Node, b"a")),
         b"write" => match desk.open_output(Port::Ele, b"a") {
             Ok(()) => told(desk.write(Port::Ele, b"abcd")),
+            Err(Failed) => b"not opened",
+        },
+        b"face" => match desk.open_output(Port::Face, b"a") {
+            Ok(()) => told(desk.write(Port::Face, b"abcd")),
+            Err(Failed) => b"not opened",
+        },
+        b"neigh" => match desk.open_output(Port::Neigh, b"a") {
+            Ok(()) => told_end(desk.finish(Port::Neigh)),
             Err(Failed) => b"not opened",
         },
         b"finish" => match desk.open_output(Port::Node, b"a") {

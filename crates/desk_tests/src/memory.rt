@@ -98,7 +98,14 @@ fn reads_what_it_holds(rt: HostRuntime) {
             number(faults.trim_ascii()),
             "in row {n}"
         );
-        for port in [Port::Node, Port::Ele, Port::Report, Port::Trouble] {
+        for port in [
+            Port::Node,
+            Port::Ele,
+            Port::Report,
+            Port::Trouble,
+            Port::Face,
+            Port::Neigh,
+        ] {
             assert_eq!(rt; desk.faults(port), 0, "in row {n}");
         }
         rest = behind;
@@ -111,6 +118,8 @@ const WRITES: &[u8] = b"\
 node    | 9 | 9 |        | ok 4 4 ok             | abcdabcd | 0
 ele     | 9 | 9 |        | ok 4 4 ok             | abcdabcd | 0
 report  | 9 | 9 |        | ok 4 4 ok             | abcdabcd | 0
+face    | 9 | 9 |        | ok 4 4 ok             | abcdabcd | 0
+neigh   | 9 | 9 |        | ok 4 4 ok             | abcdabcd | 0
 trouble | 9 | 9 |        | ok 4 4 ok             | abcdabcd | 0
 node    | 3 | 9 |        | ok 3 3 ok             | abcabc   | 0
 ele     | 3 | 9 |        | ok 3 3 ok             | abcabc   | 0
@@ -119,13 +128,19 @@ report  | 1 | 9 |        | ok 1 1 ok             | aa       | 0
 node    | 2 | 3 |        | ok 2 1 ok             | aba      | 0
 node    | 9 | 3 |        | ok 3 failed ok        | abc      | 1
 ele     | 9 | 4 |        | ok 4 failed ok        | abcd     | 1
+face    | 9 | 4 |        | ok 4 failed ok        | abcd     | 1
+neigh   | 3 | 4 |        | ok 3 1 ok             | abca     | 0
 report  | 9 | 5 |        | ok 4 1 ok             | abcda    | 0
 trouble | 9 | 0 |        | ok failed failed ok   |          | 2
 node    | 9 | 9 | open   | no                    |          | 1
 ele     | 9 | 9 | open   | no                    |          | 1
+face    | 9 | 9 | open   | no                    |          | 1
+neigh   | 9 | 9 | open   | no                    |          | 1
 node    | 9 | 9 | finish | ok 4 4 failed         | abcdabcd | 1
 ele     | 9 | 2 | finish | ok 2 failed failed    | ab       | 2
 report  | 9 | 9 | finish | ok 4 4 failed         | abcdabcd | 1
+face    | 9 | 9 | finish | ok 4 4 failed         | abcdabcd | 1
+neigh   | 9 | 9 | finish | ok 4 4 failed         | abcdabcd | 1
 trouble | 9 | 9 | finish | ok 4 4 failed         | abcdabcd | 1
 ";
 
@@ -164,6 +179,14 @@ fn open_and_write<D: Desk>(desk: &mut D, port: Port, log: &mut Vec<u8>) -> bool
         },
         Port::Ele => match desk.open_output(Port::Ele, b"a.ele") {
             Ok(()) => write_all(desk, Port::Ele, log),
+            Err(Failed) => log_piece(log, b"no"),
+        },
+        Port::Face => match desk.open_output(Port::Face, b"a.face") {
+            Ok(()) => write_all(desk, Port::Face, log),
+            Err(Failed) => log_piece(log, b"no"),
+        },
+        Port::Neigh => match desk.open_output(Port::Neigh, b"a.neigh") {
+            Ok(()) => write_all(desk, Port::Neigh, log),
             Err(Failed) => log_piece(log, b"no"),
         },
         Port::Report => write_all(desk, Port::Report, log),

@@ -37,6 +37,8 @@ pub fn port_of(name: &[u8]) -> Port {
         b"node" => Port::Node,
         b"ele" => Port::Ele,
         b"trouble" => Port::Trouble,
+        b"face" => Port::Face,
+        b"neigh" => Port::Neigh,
         _ => Port::Report,
     }
 }

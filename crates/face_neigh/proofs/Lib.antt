@@ -7,3 +7,4 @@ pub mod Sorted
 pub mod Partners
 pub mod BoundaryTriangles
 pub mod Groups
+pub mod Numbering

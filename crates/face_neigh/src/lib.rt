@@ -13,4 +13,4 @@ mod texts;
 pub use across::neighbours;
 pub use boundary::{faces, faces_by_neighbours};
 pub use mutual::{neighbours_are_mutual, neighbours_end_at_boundary};
-pub use texts::{face_line, neigh_line};
+pub use texts::{face_line, fill_face_line, fill_neigh_line, neigh_line};

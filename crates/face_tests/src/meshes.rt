@@ -3,7 +3,7 @@ use st_base::NoMemory;
 use std::alloc::Global;
 
 // The tetrahedra around one sample above the level.
-const TETS: [[u32; 4]; 24] = [
+pub const TETS: [[u32; 4]; 24] = [
     [0, 1, 2, 7],
     [0, 1, 7, 3],
     [0, 2, 4, 7],

@@ -5,6 +5,8 @@ use Rattle.formats.specs.declared.HeadFault.{HeadFault}
 use Rattle.formats.specs.declared.HeadFault.TheVariants as head
 use Rattle.formats.specs.declared.Port.{Port}
 use Rattle.formats.specs.declared.Port.TheVariants as port
+use Rattle.formats.specs.declared.Verdict.{Verdict}
+use Rattle.formats.specs.declared.Verdict.TheVariants as verdict
 use Rattle.formats.specs.declared.Status.{Status}
 use Rattle.formats.specs.declared.Status.TheVariants as status
 use Rattle.formats.specs.Heads.{names_of}
@@ -31,6 +33,15 @@ port_text port.Node = codes "node"
 port_text port.Ele = codes "ele"
 port_text port.Report = codes "report"
 port_text port.Trouble = codes "trouble"
+port_text port.Face = codes "face"
+port_text port.Neigh = codes "neigh"
+
+-- the number of the tetrahedron that a verdict names
+abbrev pub verdict_text : Verdict → List ℕ
+verdict_text (verdict.NotPositive tet) = decimal tet
+verdict_text (verdict.Crowded tet) = decimal tet
+verdict_text (verdict.Turned tet) = decimal tet
+verdict_text (verdict.Sound nodes tets boundary) = []
 
 abbrev pub status_text : Status → List ℕ
 status_text status.Done = []
@@ -42,6 +53,9 @@ status_text (status.Truncated got wanted) = codes "truncated: " ++ (decimal got 
 status_text status.ReadFault = codes "read fault"
 status_text (status.WriteFault p) = codes "write fault: " ++ port_text p
 status_text status.NoMemory = codes "no memory"
+status_text (status.TooManyTets tets) = codes "too many tetrahedra: " ++ decimal tets
+status_text (status.BadMesh file fault) = codes "bad mesh file: " ++ port_text file
+status_text (status.NotSound v) = codes "not sound: tetrahedron " ++ verdict_text v
 
 -- the line of a status other than Done
 abbrev pub fault_line : Status → List ℕ
@@ -63,6 +77,9 @@ status_code (status.Truncated got wanted) = 6
 status_code status.ReadFault = 7
 status_code (status.WriteFault p) = 8
 status_code status.NoMemory = 9
+status_code (status.TooManyTets tets) = 10
+status_code (status.BadMesh file fault) = 11
+status_code (status.NotSound v) = 12
 
 -- the status of a head that is refused
 abbrev pub status_of : HeadFault → Status

@@ -1,5 +1,7 @@
 pub mod Counts
 pub mod HeadLines
+pub mod Decimals
+pub mod Frames
 pub mod Heads
 pub mod Volumes
 pub mod Samples

@@ -14,6 +14,9 @@ use Rattle.formats.specs.Samples.{bytes_per_sample, sample_of_bytes}
 abbrev pub first_limits : Limits
 first_limits = record { dimension = 8192; padded = 4194304 }
 
+abbrev pub second_limits : Limits
+second_limits = record { dimension = 8192; padded = 67108864 }
+
 -- the limits that a caller may set
 pub record AreLimits (limits : Limits) : Type 0 where
   pub dimension : limits.dimension ≤ 8192

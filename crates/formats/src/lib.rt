@@ -16,7 +16,8 @@ pub enum Kind {
     Int,
 }
 
-/// A key of the head of a .mha file. A head is refused for the first key in this order.
+/// A key of the head of a .mha file. A head is refused for the first key in this order. The last two
+/// are looked at only where coordinates are in the volume's own units.
 #[derive(Clone, Copy, Debug, PartialEq, Eq)]
 pub enum Key {
     ObjectType,
@@ -28,15 +29,35 @@ pub enum Key {
     DimSize,
     ElementType,
     DataFile,
+    Spacing,
+    Offset,
+}
+
+/// How the samples stand on an axis, in units of 10^-18: how far two neighbours are apart, and where
+/// the first one is.
+#[derive(Clone, Copy, Debug, PartialEq, Eq)]
+pub struct Axis {
+    pub spacing: i128,
+    pub offset: i128,
+}
+
+/// How the coordinates of nodes are printed: every `step`-th sample is kept, and the axes of the
+/// volume's own units, or `None` for index units.
+#[derive(Clone, Copy, Debug, PartialEq, Eq)]
+pub struct Frame {
+    pub step: u32,
+    pub world: Option<[Axis; 3]>,
 }
 
 /// What a head says: the raw sizes on the three axes, each from 1 to 999,999,999, the type of the
-/// samples, and whether the most significant byte of a sample comes first.
+/// samples, whether the most significant byte of a sample comes first, and how the samples stand on
+/// the three axes.
 #[derive(Clone, Copy, Debug, PartialEq, Eq)]
 pub struct Head {
     pub raw: [u32; 3],
     pub kind: Kind,
     pub big: bool,
+    pub axes: [Axis; 3],
 }
 
 /// Why there is no head, or none that is supported. `place` is the number of bytes before the line.
@@ -103,13 +124,16 @@ pub enum Verdict {
     },
 }
 
-/// Where a text is written: the nodes, the tetrahedra, the report, or what went wrong.
+/// Where a text is written: the nodes, the tetrahedra, the report, what went wrong, the boundary
+/// faces, or the neighbours of the tetrahedra.
 #[derive(Clone, Copy, Debug, PartialEq, Eq)]
 pub enum Port {
     Node,
     Ele,
     Report,
     Trouble,
+    Face,
+    Neigh,
 }
 
 /// How a command ended.
@@ -134,6 +158,12 @@ pub enum Status {
     WriteFault { port: Port },
     /// Memory ran out.
     NoMemory,
+    /// Faces and neighbours are asked for, and there are more than 33,554,432 tetrahedra.
+    TooManyTets { tets: u64 },
+    /// A finished file, of nodes or of tetrahedra, has a fault.
+    BadMesh { file: Port, fault: MeshFault },
+    /// The tetrahedra of finished files are not sound.
+    NotSound { verdict: Verdict },
 }
 
 impl Status {
@@ -151,6 +181,9 @@ impl Status {
             Status::ReadFault => 7,
             Status::WriteFault { .. } => 8,
             Status::NoMemory => 9,
+            Status::TooManyTets { .. } => 10,
+            Status::BadMesh { .. } => 11,
+            Status::NotSound { .. } => 12,
         }
     }
 }
@@ -164,7 +197,7 @@ pub struct Limits {
 }
 
 impl Limits {
-    ghost use Rattle.formats.specs.Volumes.{first_limits};
+    ghost use Rattle.formats.specs.Volumes.{first_limits, second_limits};
 
     /// Raw sizes up to 8,192, and a product up to 4,194,304.
     pub fn first() -> Limits
@@ -173,6 +206,16 @@ impl Limits {
         Limits {
             dimension: 8192,
             padded: 4_194_304,
+        }
+    }
+
+    /// Raw sizes up to 8,192, and a product up to 67,108,864.
+    pub fn second() -> Limits
+        ensures { result ≡ second_limits }
+    {
+        Limits {
+            dimension: 8192,
+            padded: 67_108_864,
         }
     }
 }

@@ -26,7 +26,7 @@ pub fn edge_cut(field: &Field, v: Vertex, dir: Dir) -> u16
 }
 
 /// The place of the node that a vertex has in a direction, in direction 0 of the vertex itself.
-fn node_place(field: &Field, states: &States, v: Vertex, dir: u8) -> Place
+pub fn node_place(field: &Field, states: &States, v: Vertex, dir: u8) -> Place
     requires sizes { states.now.dims ≡ field.now.dims }
     requires domain { InDomain field.now.dims v }
     requires dir { dir < 8 }

@@ -13,3 +13,4 @@ pub mod FirstHold
 pub mod PieceCounts
 pub mod HeldOnce
 pub mod OneSample
+pub mod ProbeTexts

@@ -4,4 +4,5 @@ pub mod Boxes
 pub mod Found
 pub mod Answers
 pub mod Laws
+pub mod ProbeTexts
 pub use Rattle.definitions.specs.Mesh

@@ -9,6 +9,7 @@
 //! if let Some(hold) = probe(&field, shares, point, &mut states) {
 //!     let number = hold_number(&field, shares, survey.states(), survey.offsets(), &hold);
 //! }
+//! let line = probe_line(alloc, &field, shares, survey.states(), survey.offsets(), point)?;
 //! ```
 #![tactic(auto)]
 
@@ -21,11 +22,13 @@ mod number;
 mod pieces;
 mod point;
 mod search;
+mod text;
 mod weights;
 
 pub use hold::Hold;
 pub use number::hold_number;
 pub use point::probe;
+pub use text::probe_line;
 
 /// A point that a tetrahedron of the mesh holds is near the lowest vertex of its lattice tetrahedron.
 pub fn held_points_are_near()

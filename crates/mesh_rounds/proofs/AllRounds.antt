@@ -68,8 +68,8 @@ no_lines s [] = refl
 no_lines s (j ∷ js) = no_lines s js
 
 pub all_slabs : (lines : Lines) (s : SourceValue) → 0 < s.slab → flat_map (slab_lines lines s) (range_with_len 0 (slabs s.field.dims s.slab)) ≡ all_lines lines s
-all_slabs (Nodes step) s some = (slabs_join s.field s.states s.slab some).nodes step
-all_slabs Tets s some = (slabs_join s.field s.states s.slab some).tets
+all_slabs (Nodes frame first) s some = (slabs_join s.field s.states s.slab some).nodes frame first
+all_slabs (Tets first) s some = (slabs_join s.field s.states s.slab some).tets first
 all_slabs Angles s some = no_lines s (range_with_len 0 (slabs s.field.dims s.slab))
 
 -- the first slabs are a front of all
@@ -130,16 +130,16 @@ tets_more s m a b r measured h k f =
     ∙ ap extremes_of (ap (λ l. flat_map (slab_angles s) (range_with_len 0 m) ++ l) (sym (append-nil (slab_angles s m))) ∙ slabs_then (slab_angles s) m 1)
 
 pub found_more : (lines : Lines) (s : SourceValue) (m : ℕ) (a b r : Option Extremes) → AreMeasured s → a ≡ extremes_to lines s m → b ≡ slab_extremes lines s m → Folds a b r → r ≡ extremes_to lines s (m + 1)
-found_more (Nodes step) s m a b r measured h k f = f [] [] (λ i d lt. absurd (omega arith)) (h ∙ extremes_of_none) (k ∙ extremes_of_none) ∙ sym extremes_of_none
-found_more Tets s m a b r measured h k f = tets_more s m a b r measured h k f
+found_more (Nodes frame first) s m a b r measured h k f = f [] [] (λ i d lt. absurd (omega arith)) (h ∙ extremes_of_none) (k ∙ extremes_of_none) ∙ sym extremes_of_none
+found_more (Tets first) s m a b r measured h k f = tets_more s m a b r measured h k f
 found_more Angles s m a b r measured h k f = tets_more s m a b r measured h k f
 
 pub found_none : (lines : Lines) (s : SourceValue) → None ≡ extremes_to lines s 0
-found_none (Nodes step) s = refl
-found_none Tets s = extremes_of_none
+found_none (Nodes frame first) s = refl
+found_none (Tets first) s = extremes_of_none
 found_none Angles s = extremes_of_none
 
 pub found_all : (lines : Lines) (s : SourceValue) (found : Option Extremes) → 0 < s.slab → found ≡ extremes_to lines s (slabs s.field.dims s.slab) → found ≡ all_extremes lines s
-found_all (Nodes step) s found some h = h
-found_all Tets s found some h = h ∙ ap extremes_of (slabs_join s.field s.states s.slab some).angles
+found_all (Nodes frame first) s found some h = h
+found_all (Tets first) s found some h = h ∙ ap extremes_of (slabs_join s.field s.states s.slab some).angles
 found_all Angles s found some h = h ∙ ap extremes_of (slabs_join s.field s.states s.slab some).angles

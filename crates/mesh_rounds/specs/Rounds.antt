@@ -1,12 +1,13 @@
 -- The lines of all slabs, and what is found on the way.
-use Rattle.std.specs.Prelude.{◌≡◌, ℕ, ◌≤◌, List, [], flat_map, Option, None}
+use Rattle.std.specs.Prelude.{◌≡◌, ℕ, ◌≤◌, List, [], map, flat_map, Option, None}
 use Rattle.std.specs.List.{range_with_len}
 use Rattle.std.specs.Option.{ForSome}
 use Rattle.definitions.specs.declared.Extremes.{Extremes}
 use Rattle.definitions.specs.Angles.{angles, extremes_of}
 use Rattle.definitions.specs.Layout.{slabs}
 use Rattle.dihedral.specs.Fractions.{AreFractions}
-use Rattle.mesh_texts.specs.Lines.{ele_lines, node_lines}
+use Rattle.mesh_texts.specs.Nodes.{nodes_of}
+use Rattle.mesh_texts.specs.Lines.{ele_lines, node_lines, renumbered}
 use Rattle.mesh_lists.specs.Parts.{mesh_of}
 use Rattle.slab_emit.specs.declared.Lines.{Lines}
 use Rattle.slab_emit.specs.declared.Lines.TheVariants.{Nodes, Tets, Angles}
@@ -16,20 +17,20 @@ use Rattle.mesh_rounds.specs.declared.rounds.Reached.{Reached}
 
 -- all lines
 abbrev pub all_lines : Lines → SourceValue → List ℕ
-all_lines (Nodes step) s = node_lines step 0 (mesh_of s.field s.states).places
-all_lines Tets s = ele_lines 0 (mesh_of s.field s.states).tets
+all_lines (Nodes frame first) s = node_lines frame first (nodes_of s.field s.states)
+all_lines (Tets first) s = ele_lines first (map (renumbered first) (mesh_of s.field s.states).tets)
 all_lines Angles s = []
 
 -- the extremes of the first slabs
 abbrev pub extremes_to : Lines → SourceValue → ℕ → Option Extremes
-extremes_to (Nodes step) s n = None
-extremes_to Tets s n = extremes_of (flat_map (slab_angles s) (range_with_len 0 n))
+extremes_to (Nodes frame first) s n = None
+extremes_to (Tets first) s n = extremes_of (flat_map (slab_angles s) (range_with_len 0 n))
 extremes_to Angles s n = extremes_of (flat_map (slab_angles s) (range_with_len 0 n))
 
 -- those of all
 abbrev pub all_extremes : Lines → SourceValue → Option Extremes
-all_extremes (Nodes step) s = None
-all_extremes Tets s = extremes_of (angles (mesh_of s.field s.states))
+all_extremes (Nodes frame first) s = None
+all_extremes (Tets first) s = extremes_of (angles (mesh_of s.field s.states))
 all_extremes Angles s = extremes_of (angles (mesh_of s.field s.states))
 
 -- the text of parts

@@ -2,6 +2,7 @@ ghost use Rattle.std.specs.Prelude.{◌≡◌, ◌≢◌, ◌≤◌, ◌++◌, L
 ghost use Rattle.std.specs.Io.KnownBytes.{Appends};
 ghost use Rattle.definitions.specs.Angles.{angles, extremes_of};
 ghost use Rattle.mesh_texts.specs.Files.{node_text, ele_text};
+ghost use Rattle.mesh_texts.specs.Nodes.{nodes_of};
 ghost use Rattle.node_ele_write.specs.Printable.{IsPrintable};
 ghost use Rattle.mesh_lists.specs.Parts.{mesh_of};
 ghost use Rattle.st_base.specs.Causes.{Rose};
@@ -13,7 +14,7 @@ use dihedral::Extremes;
 use itoa::Buffer;
 use node_ele_write::{PutFault, WriteFault, put_all};
 use slab_emit::{Lines, Source};
-use st_base::{Desk, Gate, NoMemory, Port};
+use st_base::{Desk, Frame, Gate, NoMemory, Port};
 use std::alloc::{AllocError, Global};
 use std::thread::Threads;
 
@@ -51,8 +52,8 @@ fn put_text<D: Desk>(desk: &mut D, port: Port, bytes: &[u8]) -> Result<(), PutFa
     }
 }
 
-// Writes the first line of a file, or some first bytes of it before a fault.
-fn put_head<D: Desk>(
+/// Writes the first line of a file to an open port: a count and some more; or some first bytes of it before a fault.
+pub fn put_head<D: Desk>(
     alloc: Global,
     desk: &mut D,
     port: Port,
@@ -87,20 +88,22 @@ pub fn put_nodes<D: Desk, G: Gate + Sync, R: Threads + Sync>(
     desk: &mut D,
     port: Port,
     source: &Source,
-    step: u32,
+    frame: Frame,
+    numbering: u32,
     workers: u32,
     gate: &G,
 ) -> Result<(), PutFault>
     requires is_open { (D.ports desk.old port).is_open ≡ true }
-    requires printable { All (IsPrintable step) (mesh_of source.now.field source.now.states).places }
+    requires numbering { numbering ≤ 1 }
+    requires printable { All (IsPrintable frame) (mesh_of source.now.field source.now.states).places }
     requires some_workers { 1 ≤ workers }
     requires most_workers { workers ≤ 64 }
     ensures all { OnOk result (Appends
         (D.ports desk.old port).text (D.ports desk.new port).text
-        (node_text step (mesh_of source.now.field source.now.states).places)) }
+        (node_text frame numbering (nodes_of source.now.field source.now.states))) }
     ensures part { OnErr result (AppendsPart
         (D.ports desk.old port).text (D.ports desk.new port).text
-        (node_text step (mesh_of source.now.field source.now.states).places)) }
+        (node_text frame numbering (nodes_of source.now.field source.now.states))) }
     ensures fault { IsErrOf result PutFault.WriteFault →
         Rose (D.ports desk.old port).faults (D.ports desk.new port).faults }
     ensures none { result ≢ Err PutFault.WriteFault →
@@ -110,7 +113,7 @@ pub fn put_nodes<D: Desk, G: Gate + Sync, R: Threads + Sync>(
     ensures apart { OnlyPort D.Desk port desk.old desk.new }
 {
     let nodes = source.nodes();
-    match put_head(alloc, desk, port, u64::from(nodes), b" 3 0 0\n") {
+    match put_head(alloc, desk, port, u64::from(nodes), b" 3 0 1\n") {
         Ok(()) => {}
         Err(fault) => return Err(fault),
     }
@@ -120,7 +123,7 @@ pub fn put_nodes<D: Desk, G: Gate + Sync, R: Threads + Sync>(
         desk,
         port,
         source,
-        Lines::Nodes { step },
+        Lines::Nodes { frame, numbering },
         workers,
         gate,
     ) {
@@ -137,18 +140,20 @@ pub fn put_tets<D: Desk, G: Gate + Sync, R: Threads + Sync>(
     desk: &mut D,
     port: Port,
     source: &Source,
+    numbering: u32,
     workers: u32,
     gate: &G,
 ) -> Result<Option<Extremes>, PutFault>
     requires is_open { (D.ports desk.old port).is_open ≡ true }
+    requires numbering { numbering ≤ 1 }
     requires some_workers { 1 ≤ workers }
     requires most_workers { workers ≤ 64 }
     ensures all { OnOk result (Appends
         (D.ports desk.old port).text (D.ports desk.new port).text
-        (ele_text (mesh_of source.now.field source.now.states).tets)) }
+        (ele_text numbering (mesh_of source.now.field source.now.states).tets)) }
     ensures part { OnErr result (AppendsPart
         (D.ports desk.old port).text (D.ports desk.new port).text
-        (ele_text (mesh_of source.now.field source.now.states).tets)) }
+        (ele_text numbering (mesh_of source.now.field source.now.states).tets)) }
     ensures extremes { IfOk result (λ e. e ≡ extremes_of (angles (mesh_of source.now.field source.now.states))) }
     ensures fault { IsErrOf result PutFault.WriteFault →
         Rose (D.ports desk.old port).faults (D.ports desk.new port).faults }
@@ -163,5 +168,14 @@ pub fn put_tets<D: Desk, G: Gate + Sync, R: Threads + Sync>(
         Ok(()) => {}
         Err(fault) => return Err(fault),
     }
-    put_lines(rt, alloc, desk, port, source, Lines::Tets, workers, gate)
+    put_lines(
+        rt,
+        alloc,
+        desk,
+        port,
+        source,
+        Lines::Tets { numbering },
+        workers,
+        gate,
+    )
 }

@@ -2,8 +2,8 @@
 //! by workers, written and given up, and then the next.
 //!
 //! ```rust
-//! put_nodes(rt, alloc, &mut desk, Port::Node, &source, step, workers, &OpenGate)?;
-//! let extremes = put_tets(rt, alloc, &mut desk, Port::Ele, &source, workers, &OpenGate)?;
+//! put_nodes(rt, alloc, &mut desk, Port::Node, &source, frame, 0, workers, &OpenGate)?;
+//! let extremes = put_tets(rt, alloc, &mut desk, Port::Ele, &source, 0, workers, &OpenGate)?;
 //! ```
 #![tactic(auto)]
 
@@ -12,6 +12,6 @@ mod folding;
 mod lines;
 mod rounds;
 
-pub use files::{put_nodes, put_tets};
+pub use files::{put_head, put_nodes, put_tets};
 pub use lines::{put_lines, put_parts};
 pub use rounds::{Reached, extremes, next_round};

@@ -1,11 +1,8 @@
-ghost use Rattle.std.specs.Prelude.{All, negsuc, pos, ◌≤ℤ◌};
-ghost use Rattle.std.specs.Bool.{OnTrue};
-
 use dihedral::{Cosine, Extreme, Extremes};
 use mesh_lists::{Mesh, build_mesh, extremes};
-use samples::{Field, Level};
+use small_images::field_of;
 use snap_rule::Shares;
-use st_base::{Dims, Kind, Place, Volume};
+use st_base::{Dims, Place};
 use std::alloc::Global;
 
 // The places of the nodes of the mesh of one sample.
@@ -63,13 +60,6 @@ const PLACES_OF_TWO: [(usize, [i64; 3]); 4] = [
     (4, [10533, -2341, -2341]),
 ];
 
-fn are_short(samples: &[i64]) -> bool
-    ensures low { OnTrue result (All (λ z. negsuc 32767 ≤ℤ z) samples.now) }
-    ensures high { OnTrue result (All (λ z. z ≤ℤ pos 32767) samples.now) }
-{
-    samples.iter().all(|s| -32768 <= *s && *s <= 32767)
-}
-
 // One number for the first half of the samples, and one for the rest.
 fn halves(alloc: Global, count: u32, first: i64, rest: i64) -> Option<Vec<i64>> {
     let mut samples = Vec::new(alloc);
@@ -90,18 +80,11 @@ fn mesh(
     shares: Shares,
 ) -> Option<Mesh> {
     let Dims { nx, ny, nz } = dims;
-    if nx < 1 || nx > 9 || ny < 1 || ny > 9 || nz < 1 || nz > 9 {
+    if nx > 9 || ny > 9 || nz > 9 || nx * ny * nz == 0 {
         return None;
     }
     let samples = halves(alloc, nx * ny * nz, numbers.0, numbers.1)?;
-    if samples.len() != (nx * ny * nz) as usize || !are_short(&samples) {
-        return None;
-    }
-    let volume = Volume::new(dims, 1, Kind::Short, samples);
-    let level = Level::new(twice)?;
-    let Ok(field) = Field::new(alloc, &volume, level, below) else {
-        return None;
-    };
+    let field = field_of(alloc, dims, &samples, twice, below)?;
     build_mesh(alloc, &field, shares).ok()
 }
 

@@ -1,11 +1,15 @@
 -- Worked values of the texts: coordinates, lines, and both files of one sample.
-use Rattle.std.specs.Prelude.{◌≡◌, ℕ, List, [], ◌∷◌, ◌++◌, codes, refl, pos, negsuc}
+use Rattle.std.specs.Prelude.{◌≡◌, ℕ, ◌*◌, ◌^◌, true, false, List, [], ◌∷◌, ◌++◌, map, take, codes, refl, ℤ, pos, neg_ℤ, negsuc, Some, None}
 use Rattle.std.specs.Fmt.{digits}
 use Rattle.definitions.specs.declared.Place.{Place}
 use Rattle.definitions.specs.Angles.{angles, edge_cosine, extremes_of, greatest_divisor}
 use Rattle.definitions.specs.Lists.{least_by}
 use Rattle.definitions.specs.Places.{place}
 use Rattle.mesh_texts.specs.Coordinates.{coordinate_text}
+use Rattle.formats.specs.declared.Axis.{Axis}
+use Rattle.formats.specs.declared.Frame.{Frame}
+use Rattle.mesh_texts.specs.Frames.{world_text, world_value}
+use Rattle.mesh_texts.specs.Nodes.{Node}
 use Rattle.mesh_texts.specs.Lines.{node_line, ele_line}
 use Rattle.mesh_texts.specs.Files.{node_text, ele_text, counts_text}
 use Rattle.mesh_texts.specs.Report.{mesh_extremes, report, report_text}
@@ -46,7 +50,16 @@ greatest : coordinate_text (pos 68000000) ≡ codes "8300.7812500000000"
 unfolding digits
 greatest = refl
 
-every_second : node_line 2 (1, place (pos 8192) (pos 0) (negsuc 4095)) ≡ codes "1 2.0000000000000 0.0000000000000 -1.0000000000000\n"
+abbrev index : ℕ → Frame
+index step = record { step = step; world = None }
+
+abbrev level : Place → Node
+level p = record { place = p; level = true }
+
+abbrev inside : Place → Node
+inside p = record { place = p; level = false }
+
+every_second : node_line (index 2) (1, inside (place (pos 8192) (pos 0) (negsuc 4095))) ≡ codes "1 2.0000000000000 0.0000000000000 -1.0000000000000 0\n"
 unfolding digits
 every_second = refl
 
@@ -58,42 +71,42 @@ counts : counts_text 15 24 ≡ codes "nodes 15\ntetrahedra 24\n"
 unfolding counts_text digits
 counts = refl
 
-abbrev places : List Place
-places = place (pos 0) (pos 0) (negsuc 4095)
-    ∷ place (negsuc 2340) (negsuc 2340) (negsuc 2340)
-    ∷ place (pos 2341) (negsuc 2340) (negsuc 2340)
-    ∷ place (negsuc 2340) (pos 2341) (negsuc 2340)
-    ∷ place (pos 2341) (pos 2341) (negsuc 2340)
-    ∷ place (pos 0) (negsuc 4095) (pos 0)
-    ∷ place (negsuc 4095) (pos 0) (pos 0)
-    ∷ place (pos 0) (pos 0) (pos 0)
-    ∷ place (pos 4096) (pos 0) (pos 0)
-    ∷ place (pos 0) (pos 4096) (pos 0)
-    ∷ place (negsuc 2340) (negsuc 2340) (pos 2341)
-    ∷ place (pos 2341) (negsuc 2340) (pos 2341)
-    ∷ place (negsuc 2340) (pos 2341) (pos 2341)
-    ∷ place (pos 2341) (pos 2341) (pos 2341)
-    ∷ place (pos 0) (pos 0) (pos 4096)
+abbrev nodes : List Node
+nodes = level (place (pos 0) (pos 0) (negsuc 4095))
+    ∷ level (place (negsuc 2340) (negsuc 2340) (negsuc 2340))
+    ∷ level (place (pos 2341) (negsuc 2340) (negsuc 2340))
+    ∷ level (place (negsuc 2340) (pos 2341) (negsuc 2340))
+    ∷ level (place (pos 2341) (pos 2341) (negsuc 2340))
+    ∷ level (place (pos 0) (negsuc 4095) (pos 0))
+    ∷ level (place (negsuc 4095) (pos 0) (pos 0))
+    ∷ inside (place (pos 0) (pos 0) (pos 0))
+    ∷ level (place (pos 4096) (pos 0) (pos 0))
+    ∷ level (place (pos 0) (pos 4096) (pos 0))
+    ∷ level (place (negsuc 2340) (negsuc 2340) (pos 2341))
+    ∷ level (place (pos 2341) (negsuc 2340) (pos 2341))
+    ∷ level (place (negsuc 2340) (pos 2341) (pos 2341))
+    ∷ level (place (pos 2341) (pos 2341) (pos 2341))
+    ∷ level (place (pos 0) (pos 0) (pos 4096))
     ∷ []
 
-nodes : node_text 1 places ≡ codes "15 3 0 0\n"
-    ++ (codes "0 0.0000000000000 0.0000000000000 -0.5000000000000\n"
-    ++ (codes "1 -0.2857666015625 -0.2857666015625 -0.2857666015625\n"
-    ++ (codes "2 0.2857666015625 -0.2857666015625 -0.2857666015625\n"
-    ++ (codes "3 -0.2857666015625 0.2857666015625 -0.2857666015625\n"
-    ++ (codes "4 0.2857666015625 0.2857666015625 -0.2857666015625\n"
-    ++ (codes "5 0.0000000000000 -0.5000000000000 0.0000000000000\n"
-    ++ (codes "6 -0.5000000000000 0.0000000000000 0.0000000000000\n"
-    ++ (codes "7 0.0000000000000 0.0000000000000 0.0000000000000\n"
-    ++ (codes "8 0.5000000000000 0.0000000000000 0.0000000000000\n"
-    ++ (codes "9 0.0000000000000 0.5000000000000 0.0000000000000\n"
-    ++ (codes "10 -0.2857666015625 -0.2857666015625 0.2857666015625\n"
-    ++ (codes "11 0.2857666015625 -0.2857666015625 0.2857666015625\n"
-    ++ (codes "12 -0.2857666015625 0.2857666015625 0.2857666015625\n"
-    ++ (codes "13 0.2857666015625 0.2857666015625 0.2857666015625\n"
-    ++ (codes "14 0.0000000000000 0.0000000000000 0.5000000000000\n")))))))))))))))
+one_sample : node_text (index 1) 0 nodes ≡ codes "15 3 0 1\n"
+    ++ (codes "0 0.0000000000000 0.0000000000000 -0.5000000000000 1\n"
+    ++ (codes "1 -0.2857666015625 -0.2857666015625 -0.2857666015625 1\n"
+    ++ (codes "2 0.2857666015625 -0.2857666015625 -0.2857666015625 1\n"
+    ++ (codes "3 -0.2857666015625 0.2857666015625 -0.2857666015625 1\n"
+    ++ (codes "4 0.2857666015625 0.2857666015625 -0.2857666015625 1\n"
+    ++ (codes "5 0.0000000000000 -0.5000000000000 0.0000000000000 1\n"
+    ++ (codes "6 -0.5000000000000 0.0000000000000 0.0000000000000 1\n"
+    ++ (codes "7 0.0000000000000 0.0000000000000 0.0000000000000 0\n"
+    ++ (codes "8 0.5000000000000 0.0000000000000 0.0000000000000 1\n"
+    ++ (codes "9 0.0000000000000 0.5000000000000 0.0000000000000 1\n"
+    ++ (codes "10 -0.2857666015625 -0.2857666015625 0.2857666015625 1\n"
+    ++ (codes "11 0.2857666015625 -0.2857666015625 0.2857666015625 1\n"
+    ++ (codes "12 -0.2857666015625 0.2857666015625 0.2857666015625 1\n"
+    ++ (codes "13 0.2857666015625 0.2857666015625 0.2857666015625 1\n"
+    ++ (codes "14 0.0000000000000 0.0000000000000 0.5000000000000 1\n")))))))))))))))
 unfolding node_text digits
-nodes = refl
+one_sample = refl
 
 abbrev tets : List (List ℕ)
 tets = (0 ∷ 1 ∷ 2 ∷ 7 ∷ [])
@@ -122,7 +135,7 @@ tets = (0 ∷ 1 ∷ 2 ∷ 7 ∷ [])
     ∷ (7 ∷ 12 ∷ 14 ∷ 13 ∷ [])
     ∷ []
 
-tetrahedra : ele_text tets ≡ codes "24 4 0\n"
+tetrahedra : ele_text 0 tets ≡ codes "24 4 0\n"
     ++ (codes "0 0 1 2 7\n"
     ++ (codes "1 0 1 7 3\n"
     ++ (codes "2 0 2 4 7\n"
@@ -150,20 +163,76 @@ tetrahedra : ele_text tets ≡ codes "24 4 0\n"
 unfolding ele_text digits
 tetrahedra = refl
 
-no_nodes : node_text 1 [] ≡ codes "0 3 0 0\n"
+no_nodes : node_text (index 1) 0 [] ≡ codes "0 3 0 1\n"
 unfolding node_text digits
 no_nodes = refl
 
-no_tetrahedra : ele_text [] ≡ codes "0 4 0\n"
+no_tetrahedra : ele_text 0 [] ≡ codes "0 4 0\n"
 unfolding ele_text digits
 no_tetrahedra = refl
 
-told : report (record { places = places; tets = tets }) ≡ codes "nodes 15\ntetrahedra 24\n"
+told : report 0 (record { places = map (λ (n : Node). n.place) nodes; tets = tets }) ≡ codes "nodes 15\ntetrahedra 24\n"
     ++ (codes "least +1/4 tetrahedron 0 edge 1 7\n"
     ++ codes "greatest 0/1 tetrahedron 0 edge 0 7\n")
 unfolding report_text mesh_extremes angles counts_text extremes_of least_by edge_cosine greatest_divisor digits
 told = refl
 
-nothing_told : report (record { places = []; tets = [] }) ≡ codes "nodes 0\ntetrahedra 0\nno tetrahedra\n"
+nothing_told : report 0 (record { places = []; tets = [] }) ≡ codes "nodes 0\ntetrahedra 0\nno tetrahedra\n"
 unfolding report_text mesh_extremes angles counts_text extremes_of least_by digits
 nothing_told = refl
+
+-- numbered from 1 on
+
+first_node : node_text (index 1) 1 (take 1 nodes) ≡ codes "1 3 0 1\n1 0.0000000000000 0.0000000000000 -0.5000000000000 1\n"
+unfolding node_text digits
+first_node = refl
+
+first_tetrahedra : ele_text 1 (take 2 tets) ≡ codes "2 4 0\n1 1 2 3 8\n2 1 2 8 4\n"
+unfolding ele_text digits
+first_tetrahedra = refl
+
+told_from_one : report 1 (record { places = map (λ (n : Node). n.place) nodes; tets = tets }) ≡ codes "nodes 15\ntetrahedra 24\n"
+    ++ (codes "least +1/4 tetrahedron 1 edge 2 8\n"
+    ++ codes "greatest 0/1 tetrahedron 1 edge 1 8\n")
+unfolding report_text mesh_extremes angles counts_text extremes_of least_by edge_cosine greatest_divisor digits
+told_from_one = refl
+
+-- in the volume's own units
+
+abbrev axis : ℤ → ℤ → Axis
+axis spacing offset = record { spacing = spacing; offset = offset }
+
+zero_units : world_text (pos 0) ≡ codes "0.0000000000000000000000000000000"
+unfolding digits
+zero_units = refl
+
+minus_least_unit : world_text (negsuc 0) ≡ codes "-0.0000000000000000000000000000001"
+unfolding digits
+minus_least_unit = refl
+
+greatest_units : world_text (pos 99999999999999999999999999999999999999) ≡ codes "9999999.9999999999999999999999999999999"
+unfolding digits
+greatest_units = refl
+
+-- spacings 0.5 0.5 2 and offsets 10 -20 0.25: the vertex below the sample, a cut, and the vertex to its right
+abbrev own : Frame
+own = record { step = 1; world = Some (axis (pos (5 * 10 ^ 17)) (pos (10 * 10 ^ 18)) ∷ axis (pos (5 * 10 ^ 17)) (neg_ℤ (pos (20 * 10 ^ 18))) ∷ axis (pos (2 * 10 ^ 18)) (pos (25 * 10 ^ 16)) ∷ []) }
+
+node_below : node_line own (0, level (place (pos 0) (pos 0) (negsuc 4095)))
+    ≡ codes "0 10.0000000000000000000000000000000 -20.0000000000000000000000000000000 -0.7500000000000000000000000000000 1\n"
+unfolding digits
+node_below = refl
+
+node_on_cut : node_line own (1, level (place (negsuc 2340) (negsuc 2340) (negsuc 2340)))
+    ≡ codes "1 9.8571166992187500000000000000000 -20.1428833007812500000000000000000 -0.3215332031250000000000000000000 1\n"
+unfolding digits
+node_on_cut = refl
+
+node_to_right : node_line own (8, level (place (pos 4096) (pos 0) (pos 0)))
+    ≡ codes "8 10.2500000000000000000000000000000 -20.0000000000000000000000000000000 0.2500000000000000000000000000000 1\n"
+unfolding digits
+node_to_right = refl
+
+-- offset + spacing * step * p / 8192: the offset stays as it is where every second sample is kept
+every_second_own : world_value (axis (pos (5 * 10 ^ 17)) (pos (10 * 10 ^ 18))) 2 (pos 8192) ≡ pos (11 * 10 ^ 31)
+every_second_own = refl

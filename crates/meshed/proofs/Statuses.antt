@@ -3,7 +3,7 @@ use Rattle.std.proofs.Common.{◌≡◌, ◌≢◌, ◌⊎◌, ◌↔◌, inl, i
 use Rattle.formats.specs.declared.Port.{Port}
 use Rattle.formats.specs.declared.Port.TheVariants.{Trouble}
 use Rattle.formats.specs.declared.Status.{Status}
-use Rattle.formats.specs.declared.Status.TheVariants.{Done, BadWords, BadHeader, Unsupported, TooLarge, Truncated, ReadFault, WriteFault, NoMemory}
+use Rattle.formats.specs.declared.Status.TheVariants.{Done, BadWords, BadHeader, Unsupported, TooLarge, Truncated, ReadFault, WriteFault, NoMemory, TooManyTets, BadMesh, NotSound}
 use Rattle.st_base.specs.Desk.{InputState, PortState}
 use Rattle.stuff.specs.Ports.{HasNoFault}
 use Rattle.desk_mem.specs.declared.mem.MemDesk.{MemDesk}
@@ -25,6 +25,9 @@ lacks_or_free (Truncated got wanted) = inr (λ e. cc, λ p e. cc)
 lacks_or_free ReadFault = inl tt
 lacks_or_free (WriteFault port) = inl tt
 lacks_or_free NoMemory = inl tt
+lacks_or_free (TooManyTets tets) = inr (λ e. cc, λ p e. cc)
+lacks_or_free (BadMesh file why) = inr (λ e. cc, λ p e. cc)
+lacks_or_free (NotSound verdict) = inr (λ e. cc, λ p e. cc)
 
 zero_of : (n : ℕ) → (0 < n → ⊥) → n ≡ 0
 zero_of zero f = refl
@@ -53,3 +56,6 @@ status_taken (Truncated got wanted) desk answer h = h.status_is
 status_taken ReadFault desk answer h = h.status_is
 status_taken (WriteFault port) desk answer h = h.status_is
 status_taken NoMemory desk answer h = h.status_is
+status_taken (TooManyTets tets) desk answer h = h.status_is
+status_taken (BadMesh file why) desk answer h = h.status_is
+status_taken (NotSound verdict) desk answer h = h.status_is

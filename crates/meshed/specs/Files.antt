@@ -2,6 +2,7 @@
 use Rattle.std.specs.Prelude.{ℕ, List, [], ◌∷◌, Option, Some, None, if◌then◌else◌, slice_index_or, map}
 use Rattle.std.specs.Str.{bytes_eq}
 use Rattle.definitions.specs.Values.{Field}
+use Rattle.formats.specs.declared.Axis.{Axis}
 use Rattle.formats.specs.declared.Port.TheVariants.{Node, Ele}
 use Rattle.command_line.specs.Grammar.{Command, CountSigns, MakeMesh, MakeDemo}
 use Rattle.stuff.specs.Outputs.{file_name, text_of}
@@ -24,13 +25,11 @@ named file = record { name = file.name.items; bytes = file.bytes.items }
 abbrev pub two_files : List ℕ → List ℕ → List ℕ → List ℕ → List NamedBytes
 two_files node node_bytes ele ele_bytes = record { name = node; bytes = node_bytes } ∷ record { name = ele; bytes = ele_bytes } ∷ []
 
--- the files that a command makes of a field: those of a mesh, or none
-abbrev pub files_made : List (List ℕ) → Command → Field → List NamedBytes
-files_made words (CountSigns input level below step) f = []
-files_made words (MakeMesh input output level below step shares plan) f =
-    let c = MakeMesh input output level below step shares plan in
-    two_files (file_name words c Node) (text_of c f Node) (file_name words c Ele) (text_of c f Ele)
-files_made words (MakeDemo size seed plan) f = []
+-- the files that a command makes of the axes and the field of a volume: those of a mesh, or none
+abbrev pub files_made : List (List ℕ) → Command → List Axis → Field → List NamedBytes
+files_made words (CountSigns input level below step) axes f = []
+files_made words (MakeMesh m) axes f = two_files (file_name words (MakeMesh m) Node) (text_of (MakeMesh m) axes f Node) (file_name words (MakeMesh m) Ele) (text_of (MakeMesh m) axes f Ele)
+files_made words (MakeDemo size seed plan) axes f = []
 
 -- the files whose names were tried behind that of an input
 abbrev pub files_tried : List (List ℕ) → List ℕ → List ℕ → List NamedBytes

@@ -22,11 +22,11 @@ use stuff::stuff;
 pub fn meshed<R: Threads + Sync>(rt: &R, alloc: Global, words: &Words, files: &[File]) -> Answer
     // The status: of words that are no command, of a command and its input, and of a demo.
     ensures bad_words { (place : ℕ) → IsBadPlace words.now place → Comes result.status (Status.BadWords place) }
-    ensures told { (c : Command) (text : List ℕ) → Reads words.now c → told_input (held_in files.now) words.now c ≡ Some text → Comes result.status (outcome_of (settings_of c).step text).status }
+    ensures told { (c : Command) (text : List ℕ) → Reads words.now c → told_input (held_in files.now) words.now c ≡ Some text → Comes result.status (outcome_of (settings_of c).world (settings_of c).step text).status }
     ensures demo { (size seed : ℕ) (plan : Plan) → Reads words.now (MakeDemo size seed plan) → Comes result.status Status.Done }
 
     // What is made of the command's field, and that nothing is made where it is not done.
-    ensures made { result.status ≡ Status.Done → (c : Command) (f : Field) → Reads words.now c → IsFieldFor (held_in files.now) words.now c f → Makes words.now c f result }
+    ensures made { result.status ≡ Status.Done → (c : Command) (f : Field) → Reads words.now c → IsFieldFor (held_in files.now) words.now c f → Makes (held_in files.now) words.now c f result }
     ensures no_files { result.status ≢ Status.Done → result.files.items ≡ [] }
     ensures no_report { result.status ≢ Status.Done → result.report.items ≡ [] }
 

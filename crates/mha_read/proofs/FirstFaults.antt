@@ -12,8 +12,8 @@ use Rattle.mha_read.specs.Faults.{first_of}
 use Rattle.mha_read.proofs.LinesTaken.{some_same}
 
 -- the first fault of the keys from one on
-abbrev pub fault_from : (Key → Option HeadFault) → ℕ → Option HeadFault
-fault_from f i = first_of (filter_map f (drop i keys))
+abbrev pub fault_from : Bool → (Key → Option HeadFault) → ℕ → Option HeadFault
+fault_from world f i = first_of (filter_map f (drop i (keys world)))
 
 -- where the dimensions have no fault, they are a count
 pub record HasCount (pairs : List (List ℕ × List ℕ)) : Type 0 where

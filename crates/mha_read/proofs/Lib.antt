@@ -5,6 +5,7 @@ pub mod ValueWords
 pub mod FirstPairs
 pub mod FirstFaults
 pub mod Judged
+pub mod AxisWords
 pub mod HeadSearch
 pub mod HeadAnswers
 pub mod Ranges

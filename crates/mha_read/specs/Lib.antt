@@ -1,4 +1,5 @@
 pub mod Faults
+pub mod Axes
 pub mod Formed
 pub mod Lines
 pub mod LinesRead

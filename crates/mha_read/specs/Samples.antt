@@ -1,8 +1,8 @@
 -- Samples, taken from an input in whole rows.
-use Rattle.std.specs.Prelude.{◌≡◌, ◌<◌, ◌≤◌, ℕ, ◌+◌, ◌*◌, ◌^◌, ℤ, List, ◌++◌, length, Option, Result, Ok, Err, Vec, ⊤}
+use Rattle.std.specs.Prelude.{◌≡◌, ◌<◌, ◌≤◌, ℕ, ◌+◌, ◌*◌, ◌^◌, ℤ, List, ◌++◌, length, Option, Result, Ok, Err, ⊤}
 use Rattle.std.specs.Io.KnownBytes.{Consumes, IsAtEnd}
-use Rattle.std.specs.declared.alloc.Global.{Global}
 use Rattle.formats.specs.Samples.{bytes_per_sample, sample_of_bytes}
+use Rattle.st_base.specs.Samples.{Samples}
 use Rattle.mha_read.specs.RawRows.{kept_of_rows}
 use Rattle.mha_read.specs.declared.samples.Grid.{Grid}
 use Rattle.mha_read.specs.declared.samples.SampleFault.{SampleFault}
@@ -61,8 +61,8 @@ ReadsRows grid old new q rows before after (Err ReadFault) = TakesFewer old new 
 ReadsRows grid old new q rows before after (Err NoMemory) = ⊤
 
 -- what reading all rows comes to
-abbrev pub ReadsSamples : Grid → Option (List ℕ) → Option (List ℕ) → ℕ → Result (Vec ℤ Global) SampleFault → Type 0
-ReadsSamples grid old new rows (Ok v) = TakesRows grid old new rows v.items
+abbrev pub ReadsSamples : Grid → Option (List ℕ) → Option (List ℕ) → ℕ → Result Samples SampleFault → Type 0
+ReadsSamples grid old new rows (Ok s) = TakesRows grid old new rows s.numbers
 ReadsSamples grid old new rows (Err (Truncated got)) = TakesLast old new got (rows * row_bytes grid)
 ReadsSamples grid old new rows (Err ReadFault) = TakesFewer old new (rows * row_bytes grid)
 ReadsSamples grid old new rows (Err NoMemory) = ⊤

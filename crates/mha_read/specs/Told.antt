@@ -1,5 +1,5 @@
 -- What reading a head comes to where the input is told.
-use Rattle.std.specs.Prelude.{◌≡◌, ◌⊎◌, ◌<◌, ℕ, List, [], ◌∷◌, ◌++◌, length, filter_map, Option, Result, Ok, Err, IsTrue, true, false, ⊤}
+use Rattle.std.specs.Prelude.{◌≡◌, ◌⊎◌, ◌<◌, ℕ, List, [], ◌∷◌, ◌++◌, length, filter_map, Option, Result, Ok, Err, Bool, IsTrue, true, false, ⊤}
 use Rattle.formats.specs.declared.Head.{Head}
 use Rattle.formats.specs.declared.HeadFault.{HeadFault}
 use Rattle.formats.specs.declared.HeadFault.TheVariants.{ReadFault, NoMemory}
@@ -33,8 +33,8 @@ PairsRead (Err NoMemory) text left = ⊤
 PairsRead (Err fault) text left = (pairs_of text ≡ Err fault) × Leaves text (head_taken text) left
 
 -- the answer is the one that the text has, and so is what is left
-abbrev pub Answers : Result Head HeadFault → List ℕ → Option (List ℕ) → Type 0
-Answers (Ok head) text left = (h : HeadAt) × (head_of text ≡ Ok h) × (head ≡ h.head) × (h.len ≡ head_taken text) × Leaves text h.len left
-Answers (Err ReadFault) text left = (n : ℕ) × Leaves text n left × IsEarly text n
-Answers (Err NoMemory) text left = ⊤
-Answers (Err fault) text left = (head_of text ≡ Err fault) × Leaves text (head_taken text) left
+abbrev pub Answers : Bool → Result Head HeadFault → List ℕ → Option (List ℕ) → Type 0
+Answers world (Ok head) text left = (h : HeadAt) × (head_of world text ≡ Ok h) × (head ≡ h.head) × (h.len ≡ head_taken text) × Leaves text h.len left
+Answers world (Err ReadFault) text left = (n : ℕ) × Leaves text n left × IsEarly text n
+Answers world (Err NoMemory) text left = ⊤
+Answers world (Err fault) text left = (head_of world text ≡ Err fault) × Leaves text (head_taken text) left

@@ -2,16 +2,19 @@
 //!
 //! ```rust
 //! desk.open_input(b"scan.mha")?;
-//! let head = read_head(alloc, &mut desk)?;
+//! let head = read_head(alloc, &mut desk, false)?;
 //! let volume = read_volume(alloc, &mut desk, &head, 1, &Limits::first())?;
 //! ```
 #![tactic(auto)]
 
+mod axes;
 mod counts;
+mod decimals;
 mod filling;
 mod forms;
 mod lines;
 mod meaning;
+mod numbers;
 mod pairs;
 mod reading;
 mod samples;

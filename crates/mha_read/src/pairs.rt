@@ -51,6 +51,8 @@ fn is_name_of(name: &[u8], key: Key) -> bool
         Key::DimSize => is_text(name, b"DimSize"),
         Key::ElementType => is_text(name, b"ElementType"),
         Key::DataFile => is_text(name, b"ElementDataFile"),
+        Key::Spacing => is_text(name, b"ElementSpacing"),
+        Key::Offset => is_text(name, b"Offset"),
     }
 }
 

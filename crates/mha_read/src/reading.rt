@@ -1,4 +1,5 @@
 ghost use Rattle.std.specs.Prelude.{◌≡◌, ◌≢◌, ◌<◌, ◌≤◌, List, ℕ, true, Some, Err, IfOk, IsErrOf};
+ghost use Rattle.formats.specs.Frames.{AreAxes};
 ghost use Rattle.st_base.specs.Causes.{Rose};
 ghost use Rattle.st_base.specs.Frames.{OnlyInput};
 ghost use Rattle.mha_read.specs.LinesRead.{LinesRead};
@@ -89,12 +90,13 @@ fn read_pairs<D: Desk>(alloc: Global, desk: &mut D) -> Result<Pairs, HeadFault>
 /// A bad line is answered before all else, and is read up to its newline; then that there is no data
 /// line, then the first key whose form is at fault, then the first key that is not supported.
 /// ReadFault is answered where a read failed. The input stays open, and stands where the reading
-/// stopped.
-pub fn read_head<D: Desk>(alloc: Global, desk: &mut D) -> Result<Head, HeadFault>
+/// stopped. The spacings and offsets of the axes are read where `world` is set, and else they are 1 and 0.
+pub fn read_head<D: Desk>(alloc: Global, desk: &mut D, world: bool) -> Result<Head, HeadFault>
     requires { (D.input desk.old).is_open ≡ true }
     ensures told { (text : List ℕ) → (D.input desk.old).left ≡ Some text →
-        Answers result text (D.input desk.new).left }
+        Answers world result text (D.input desk.new).left }
     ensures sizes { IfOk result (λ head. AreRawSizes head.raw) }
+    ensures axes { IfOk result (λ head. AreAxes head.axes) }
     ensures fault { IsErrOf result HeadFault.ReadFault →
         Rose (D.input desk.old).faults (D.input desk.new).faults }
     ensures none { result ≢ Err HeadFault.ReadFault →
@@ -104,7 +106,7 @@ pub fn read_head<D: Desk>(alloc: Global, desk: &mut D) -> Result<Head, HeadFault
     ensures apart { OnlyInput D.Desk desk.old desk.new }
 {
     match read_pairs(alloc, desk) {
-        Ok(pairs) => judge(&pairs),
+        Ok(pairs) => judge(&pairs, world),
         Err(fault) => Err(fault),
     }
 }

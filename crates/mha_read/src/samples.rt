@@ -8,7 +8,7 @@ ghost use Rattle.mha_read.specs.Samples.{IsGrid, row_bytes, kept_rows, ReadsRows
 
 use crate::filling::fill;
 use sample_numbers::{bytes_per_sample, decode};
-use st_base::{Desk, Failed, Kind};
+use st_base::{Desk, Failed, Kind, Samples};
 use std::alloc::{AllocError, Global};
 
 // How many bytes are read at once, at most.
@@ -47,19 +47,21 @@ fn sample_at(bytes: &[u8], grid: &Grid, n: usize) -> i64
 
 // The kept samples of a row, at the end of a list. The row's first is the sample of that number.
 fn push_row(
-    samples: &mut Vec<i64>,
+    samples: &mut Samples,
     bytes: &[u8],
     grid: &Grid,
     first: usize,
 ) -> Result<(), AllocError>
     requires grid { IsGrid grid.now }
+    requires kind { samples.old.kind ≡ grid.now.kind }
     requires within { (first + grid.now.width) * sample_bytes grid.now.kind ≤ length bytes.now }
-    ensures numbers { OnOk result (samples.new.items ≡ samples.old.items ++
+    ensures kind { samples.new.kind ≡ samples.old.kind }
+    ensures numbers { OnOk result (samples.new.numbers ≡ samples.old.numbers ++
         kept_of_row (sample_of_bytes grid.now.kind grid.now.big bytes.now) grid.now.width grid.now.step first) }
-    ensures low { All (λ z. least_of grid.now.kind ≤ℤ z) samples.old.items →
-        All (λ z. least_of grid.now.kind ≤ℤ z) samples.new.items }
-    ensures high { All (λ z. z ≤ℤ greatest_of grid.now.kind) samples.old.items →
-        All (λ z. z ≤ℤ greatest_of grid.now.kind) samples.new.items }
+    ensures low { OnOk result (All (λ z. least_of grid.now.kind ≤ℤ z) samples.old.numbers →
+        All (λ z. least_of grid.now.kind ≤ℤ z) samples.new.numbers) }
+    ensures high { OnOk result (All (λ z. z ≤ℤ greatest_of grid.now.kind) samples.old.numbers →
+        All (λ z. z ≤ℤ greatest_of grid.now.kind) samples.new.numbers) }
 {
     for i in 0..grid.width.div_ceil(grid.step) {
         samples.push(sample_at(bytes, grid, first + i * grid.step))?;
@@ -76,20 +78,22 @@ fn keeps_row(grid: &Grid, row: usize) -> bool
 
 // The kept samples of rows, at the end of a list. Rows that are not kept are not decoded.
 fn push_rows(
-    samples: &mut Vec<i64>,
+    samples: &mut Samples,
     bytes: &[u8],
     grid: &Grid,
     row: usize,
     rows: usize,
 ) -> Result<(), AllocError>
     requires grid { IsGrid grid.now }
+    requires kind { samples.old.kind ≡ grid.now.kind }
     requires within { length bytes.now ≡ rows * row_bytes grid.now }
     requires bound { row + rows ≤ 2 ^ 26 }
-    ensures numbers { OnOk result (samples.new.items ≡ samples.old.items ++ kept_rows grid.now bytes.now row rows) }
-    ensures low { All (λ z. least_of grid.now.kind ≤ℤ z) samples.old.items →
-        All (λ z. least_of grid.now.kind ≤ℤ z) samples.new.items }
-    ensures high { All (λ z. z ≤ℤ greatest_of grid.now.kind) samples.old.items →
-        All (λ z. z ≤ℤ greatest_of grid.now.kind) samples.new.items }
+    ensures kind { samples.new.kind ≡ samples.old.kind }
+    ensures numbers { OnOk result (samples.new.numbers ≡ samples.old.numbers ++ kept_rows grid.now bytes.now row rows) }
+    ensures low { OnOk result (All (λ z. least_of grid.now.kind ≤ℤ z) samples.old.numbers →
+        All (λ z. least_of grid.now.kind ≤ℤ z) samples.new.numbers) }
+    ensures high { OnOk result (All (λ z. z ≤ℤ greatest_of grid.now.kind) samples.old.numbers →
+        All (λ z. z ≤ℤ greatest_of grid.now.kind) samples.new.numbers) }
 {
     for i in 0..rows {
         if keeps_row(grid, row + i) {
@@ -102,7 +106,7 @@ fn push_rows(
 // Reads rows through a buffer of their size.
 fn read_rows<D: Desk>(
     desk: &mut D,
-    samples: &mut Vec<i64>,
+    samples: &mut Samples,
     buffer: &mut [u8],
     grid: &Grid,
     row: usize,
@@ -110,14 +114,16 @@ fn read_rows<D: Desk>(
 ) -> Result<(), SampleFault>
     requires is_open { (D.input desk.old).is_open ≡ true }
     requires grid { IsGrid grid.now }
+    requires kind { samples.old.kind ≡ grid.now.kind }
     requires room { length buffer.old ≡ rows * row_bytes grid.now }
     requires bound { row + rows ≤ 2 ^ 26 }
+    ensures kind { samples.new.kind ≡ samples.old.kind }
     ensures rows { ReadsRows grid.now (D.input desk.old).left (D.input desk.new).left row rows
-        samples.old.items samples.new.items result }
-    ensures low { All (λ z. least_of grid.now.kind ≤ℤ z) samples.old.items →
-        All (λ z. least_of grid.now.kind ≤ℤ z) samples.new.items }
-    ensures high { All (λ z. z ≤ℤ greatest_of grid.now.kind) samples.old.items →
-        All (λ z. z ≤ℤ greatest_of grid.now.kind) samples.new.items }
+        samples.old.numbers samples.new.numbers result }
+    ensures low { OnOk result (All (λ z. least_of grid.now.kind ≤ℤ z) samples.old.numbers →
+        All (λ z. least_of grid.now.kind ≤ℤ z) samples.new.numbers) }
+    ensures high { OnOk result (All (λ z. z ≤ℤ greatest_of grid.now.kind) samples.old.numbers →
+        All (λ z. z ≤ℤ greatest_of grid.now.kind) samples.new.numbers) }
     ensures fault { IsErrOf result SampleFault.ReadFault →
         Rose (D.input desk.old).faults (D.input desk.new).faults }
     ensures none { result ≢ Err SampleFault.ReadFault →
@@ -182,13 +188,14 @@ pub fn read_samples<D: Desk>(
     grid: &Grid,
     rows: usize,
     kept: usize,
-) -> Result<Vec<i64>, SampleFault>
+) -> Result<Samples, SampleFault>
     requires is_open { (D.input desk.old).is_open ≡ true }
     requires grid { IsGrid grid.now }
     requires bound { rows ≤ 2 ^ 26 }
     ensures samples { ReadsSamples grid.now (D.input desk.old).left (D.input desk.new).left rows result }
-    ensures low { IfOk result (λ v. All (λ z. least_of grid.now.kind ≤ℤ z) v.items) }
-    ensures high { IfOk result (λ v. All (λ z. z ≤ℤ greatest_of grid.now.kind) v.items) }
+    ensures kind { IfOk result (λ v. v.kind ≡ grid.now.kind) }
+    ensures low { IfOk result (λ v. All (λ z. least_of grid.now.kind ≤ℤ z) v.numbers) }
+    ensures high { IfOk result (λ v. All (λ z. z ≤ℤ greatest_of grid.now.kind) v.numbers) }
     ensures fault { IsErrOf result SampleFault.ReadFault →
         Rose (D.input desk.old).faults (D.input desk.new).faults }
     ensures none { result ≢ Err SampleFault.ReadFault →
@@ -197,7 +204,7 @@ pub fn read_samples<D: Desk>(
     ensures is_open { (D.input desk.new).is_open ≡ true }
     ensures apart { OnlyInput D.Desk desk.old desk.new }
 {
-    let Ok(mut samples) = Vec::with_capacity(alloc, kept) else {
+    let Ok(mut samples) = Samples::with_capacity(alloc, grid.kind, kept) else {
         return Err(SampleFault::NoMemory);
     };
     let mut buffer = [0u8; PART];

@@ -1,14 +1,17 @@
-ghost use Rattle.std.specs.Prelude.{◌≡◌, ◌==◌, not, is_some, Some, None, Option, option_map, if◌then◌else◌, filter_map, true, IfOk, IfErr, IfSome};
+ghost use Rattle.std.specs.Prelude.{◌≡◌, ◌==◌, not, is_some, Some, None, Option, option_map, if◌then◌else◌, filter_map, Bool, true, IfOk, IfErr, IfSome};
 ghost use Rattle.std.specs.Str.Parse.{digits_value};
 ghost use Rattle.formats.specs.Counts.{is_count};
 ghost use Rattle.std.specs.Str.{bytes_eq};
-ghost use Rattle.formats.specs.Heads.{is_supported, is_true_value, kind_of, refusal, keys, head_of_pairs};
+ghost use Rattle.formats.specs.Heads.{is_supported, is_true_value, kind_of, refusal, keys as all_keys, head_of_pairs};
 ghost use Rattle.mha_read.specs.Faults.{first_of, judged, IsJudgement, AreFormed, AreSupported};
 ghost use Rattle.mha_read.specs.RawSizes.{AreRawSizes};
+ghost use Rattle.formats.specs.Frames.{AreAxes};
 ghost use Rattle.mha_read.specs.Formed.{HasNumber};
 
+use crate::axes::axes_in;
 use crate::counts::{count, raw_sizes};
-use crate::forms::{KEYS, first_form_fault};
+use crate::forms::{KEYS, first_form_fault, keys_in};
+use crate::numbers::{are_offsets, are_spacings};
 use crate::pairs::{Pairs, is_text};
 use st_base::{Head, HeadFault, Key, Kind};
 
@@ -67,12 +70,14 @@ fn supports(key: Key, value: &[u8]) -> bool
         Key::DataFile => {
             is_text(value, b"LOCAL") || is_text(value, b"Local") || is_text(value, b"local")
         }
+        Key::Spacing => are_spacings(value),
+        Key::Offset => are_offsets(value),
     }
 }
 
 #[tactic(auto, unfolding(formats::specs::Heads::refusal))]
-fn refusal_of(pairs: &Pairs, key: Key) -> Option<HeadFault>
-    requires { AreFormed pairs.now }
+fn refusal_of(pairs: &Pairs, key: Key, world: bool) -> Option<HeadFault>
+    requires { AreFormed world pairs.now }
     ensures value { result ≡ refusal pairs.now key }
     ensures kind { IfSome result IsJudgement }
 {
@@ -88,14 +93,14 @@ fn refusal_of(pairs: &Pairs, key: Key) -> Option<HeadFault>
     }
 }
 
-fn first_refusal(pairs: &Pairs) -> Option<HeadFault>
-    requires { AreFormed pairs.now }
-    ensures value { result ≡ first_of (filter_map (refusal pairs.now) keys) }
+fn first_refusal(pairs: &Pairs, world: bool) -> Option<HeadFault>
+    requires { AreFormed world pairs.now }
+    ensures value { result ≡ first_of (filter_map (refusal pairs.now) (all_keys world)) }
     ensures kind { IfSome result IsJudgement }
 {
     let keys = KEYS;
-    for key in &keys {
-        let fault = refusal_of(pairs, *key);
+    for key in keys_in(&keys, world) {
+        let fault = refusal_of(pairs, *key, world);
         if fault.is_some() {
             return fault;
         }
@@ -103,10 +108,10 @@ fn first_refusal(pairs: &Pairs) -> Option<HeadFault>
     None
 }
 
-fn sizes_of(pairs: &Pairs) -> [u32; 3]
-    requires formed { AreFormed pairs.now }
-    requires supported { AreSupported pairs.now }
-    ensures value { result ≡ (head_of_pairs pairs.now).raw }
+fn sizes_of(pairs: &Pairs, world: bool) -> [u32; 3]
+    requires formed { AreFormed world pairs.now }
+    requires supported { AreSupported world pairs.now }
+    ensures value { result ≡ (head_of_pairs world pairs.now).raw }
     ensures sizes { AreRawSizes result }
 {
     match pairs.value(Key::DimSize) {
@@ -120,7 +125,7 @@ fn sizes_of(pairs: &Pairs) -> [u32; 3]
 
 #[tactic(auto, unfolding(formats::specs::Heads::head_of_pairs))]
 fn kind_in(pairs: &Pairs) -> Kind
-    ensures { result ≡ (head_of_pairs pairs.now).kind }
+    ensures { (world : Bool) → result ≡ (head_of_pairs world pairs.now).kind }
 {
     match pairs.value(Key::ElementType) {
         Some(name) => kind_named(name).unwrap_or(Kind::Uchar),
@@ -130,7 +135,7 @@ fn kind_in(pairs: &Pairs) -> Kind
 
 #[tactic(auto, unfolding(formats::specs::Heads::head_of_pairs))]
 fn is_big(pairs: &Pairs) -> bool
-    ensures { result ≡ (head_of_pairs pairs.now).big }
+    ensures { (world : Bool) → result ≡ (head_of_pairs world pairs.now).big }
 {
     match pairs.value(Key::ByteOrder) {
         Some(value) => is_true(value),
@@ -140,20 +145,22 @@ fn is_big(pairs: &Pairs) -> bool
 
 /// The head that the pairs say, or the first fault of form in the order of keys, or else the first
 /// refusal.
-pub fn judge(pairs: &Pairs) -> Result<Head, HeadFault>
-    ensures value { result ≡ judged pairs.now }
+pub fn judge(pairs: &Pairs, world: bool) -> Result<Head, HeadFault>
+    ensures value { result ≡ judged world pairs.now }
     ensures sizes { IfOk result (λ head. AreRawSizes head.raw) }
+    ensures axes { IfOk result (λ head. AreAxes head.axes) }
     ensures kind { IfErr result IsJudgement }
 {
-    if let Some(fault) = first_form_fault(pairs) {
+    if let Some(fault) = first_form_fault(pairs, world) {
         return Err(fault);
     }
-    if let Some(fault) = first_refusal(pairs) {
+    if let Some(fault) = first_refusal(pairs, world) {
         return Err(fault);
     }
     Ok(Head {
-        raw: sizes_of(pairs),
+        raw: sizes_of(pairs, world),
         kind: kind_in(pairs),
         big: is_big(pairs),
+        axes: axes_in(pairs, world),
     })
 }

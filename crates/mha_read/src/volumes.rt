@@ -183,7 +183,7 @@ pub fn read_volume<D: Desk>(
     };
     let grid = grid_of(head, step);
     match read_samples(alloc, desk, &grid, row_count(head), sample_count(sizes)) {
-        Ok(samples) => Ok(Volume::new(sizes, step, head.kind, samples)),
+        Ok(samples) => Ok(Volume::new(sizes, step, samples)),
         Err(fault) => match fault {
             SampleFault::Truncated { got } => {
                 let wanted = byte_count(head);

@@ -13,6 +13,7 @@ use Rattle.formats.specs.declared.Kind.{Kind}
 use Rattle.formats.specs.declared.Kind.TheVariants.{Uchar, Char, Ushort, Short, Uint, Int}
 use Rattle.formats.specs.Counts.{head_limit, is_positive_count}
 use Rattle.formats.specs.HeadLines.{Meaning, Pair, meaning_of, is_bad, is_data_line, pair_of}
+use Rattle.formats.specs.Frames.{unit_axes}
 use Rattle.formats.specs.Heads.{head_of, head_of_found, first_fault_or, head_of_pairs, words_of, kind_of, form_fault, refusal, faults}
 use Rattle.mha_read.specs.Lines.{HasNoNewline}
 use Rattle.mha_read.specs.LinesRead.{bytes_of}
@@ -48,17 +49,30 @@ name_is_kind Short = refl
 name_is_kind Uint = refl
 name_is_kind Int = refl
 
-no_faults : (sizes name : List ℕ) (ws : List (List ℕ)) (kind : Kind) → words_of sizes ≡ ws → (length ws == 3 && list_all is_positive_count ws) ≡ true → 0 < length name → kind_of name ≡ Some kind → faults (plain_pairs sizes name) ≡ []
-unfolding form_fault refusal
-no_faults sizes name ws kind words three some is =
-    let formed : (length (words_of sizes) == 3 && list_all is_positive_count (words_of sizes)) ≡ true = ap (λ (vs : List (List ℕ)). length vs == 3 && list_all is_positive_count vs) words ∙ three in
-    let named : nat_lt 0 (length name) ≡ true = grind (arith, common_steps) in
-    let supported : is_some (kind_of name) ≡ true = ap (λ (o : Option Kind). is_some o) is in
-    rw (formed, named, supported) refl
+-- what the sizes and the name of the type say
+record Say (sizes name : List ℕ) : Type 0 where
+  pub formed : (length (words_of sizes) == 3 && list_all is_positive_count (words_of sizes)) ≡ true
+  pub named : nat_lt 0 (length name) ≡ true
+  pub supported : is_some (kind_of name) ≡ true
 
-head_is : (sizes name : List ℕ) (ws : List (List ℕ)) (kind : Kind) → words_of sizes ≡ ws → kind_of name ≡ Some kind → head_of_pairs (plain_pairs sizes name) ≡ record { raw = map (digits_value 10) ws; kind = kind; big = false }
+say : (sizes name : List ℕ) (ws : List (List ℕ)) (kind : Kind) → words_of sizes ≡ ws → (length ws == 3 && list_all is_positive_count ws) ≡ true → 0 < length name → kind_of name ≡ Some kind → Say sizes name
+say sizes name ws kind words three some is =
+    let named : nat_lt 0 (length name) ≡ true = grind (arith, common_steps) in
+    record {
+      formed = ap (λ (vs : List (List ℕ)). length vs == 3 && list_all is_positive_count vs) words ∙ three;
+      named = named;
+      supported = ap (λ (o : Option Kind). is_some o) is;
+    }
+
+no_faults : (world : Bool) (sizes name : List ℕ) (ws : List (List ℕ)) (kind : Kind) → words_of sizes ≡ ws → (length ws == 3 && list_all is_positive_count ws) ≡ true → 0 < length name → kind_of name ≡ Some kind → faults world (plain_pairs sizes name) ≡ []
+unfolding form_fault refusal
+no_faults true sizes name ws kind words three some is = let s = say sizes name ws kind words three some is in rw (s.formed, s.named, s.supported) refl
+no_faults false sizes name ws kind words three some is = let s = say sizes name ws kind words three some is in rw (s.formed, s.named, s.supported) refl
+
+head_is : (world : Bool) (sizes name : List ℕ) (ws : List (List ℕ)) (kind : Kind) → words_of sizes ≡ ws → kind_of name ≡ Some kind → head_of_pairs world (plain_pairs sizes name) ≡ record { raw = map (digits_value 10) ws; kind = kind; big = false; axes = unit_axes }
 unfolding head_of_pairs
-head_is sizes name ws kind words is = λ i. record { raw = map (digits_value 10) (words i); kind = unwrap_or (is i) Uchar; big = false }
+head_is true sizes name ws kind words is = λ i. record { raw = map (digits_value 10) (words i); kind = unwrap_or (is i) Uchar; big = false; axes = unit_axes }
+head_is false sizes name ws kind words is = λ i. record { raw = map (digits_value 10) (words i); kind = unwrap_or (is i) Uchar; big = false; axes = unit_axes }
 
 type_meaning : (kind : Kind) → meaning_of (codes "ElementType = " ++ type_name kind) ≡ Pair (codes "ElementType") (type_name kind)
 type_meaning Uchar = refl
@@ -212,16 +226,16 @@ sizes_count d s =
     let z = size_is_count d.nz s.z.positive s.z.small in
     λ i. x i && (y i && (z i && true))
 
-pub head_back : (d : Dims) (kind : Kind) (rest : List ℕ) → IsDims d → head_of (plain_head d kind ++ rest) ≡ Ok (record { head = record { raw = d.nx ∷ d.ny ∷ d.nz ∷ []; kind = kind; big = false }; len = length (plain_head d kind) })
+pub head_back : (world : Bool) (d : Dims) (kind : Kind) (rest : List ℕ) → IsDims d → head_of world (plain_head d kind ++ rest) ≡ Ok (record { head = record { raw = d.nx ∷ d.ny ∷ d.nz ∷ []; kind = kind; big = false; axes = unit_axes }; len = length (plain_head d kind) })
 unfolding head_of plain_head
-head_back d kind rest sized =
+head_back world d kind rest sized =
     let s : AreSizes d = are_sizes d sized in
     let ws : List (List ℕ) = decimal d.nx ∷ decimal d.ny ∷ decimal d.nz ∷ [] in
     let found = pairs_found_in (front_lines d kind) (codes "ElementDataFile = LOCAL") rest (lines_plain d kind s) (lines_few d kind s) (lines_pass d kind s) refl refl in
     let len : bytes_of (plain_lines d kind) ≡ length (with_newlines (plain_lines d kind)) = sym (length_lines (plain_lines d kind)) in
-    let none : faults (plain_pairs (sizes_text d) (type_name kind)) ≡ [] = no_faults (sizes_text d) (type_name kind) ws kind (words_are d s) (sizes_count d s) (name_length kind).0 (name_is_kind kind) in
-    let head = head_is (sizes_text d) (type_name kind) ws kind (words_are d s) (name_is_kind kind) in
-    ap head_of_found found
-    ∙ (λ i. head_of_found (Ok (record { pairs = pairs_are d kind s i; len = len i })))
+    let none : faults world (plain_pairs (sizes_text d) (type_name kind)) ≡ [] = no_faults world (sizes_text d) (type_name kind) ws kind (words_are d s) (sizes_count d s) (name_length kind).0 (name_is_kind kind) in
+    let head = head_is world (sizes_text d) (type_name kind) ws kind (words_are d s) (name_is_kind kind) in
+    ap (head_of_found world) found
+    ∙ (λ i. head_of_found world (Ok (record { pairs = pairs_are d kind s i; len = len i })))
     ∙ (λ i. first_fault_or (record { head = head i; len = length (with_newlines (plain_lines d kind)) }) (none i))
-    ∙ (λ i. Ok (record { head = record { raw = s.x.value i ∷ s.y.value i ∷ s.z.value i ∷ []; kind = kind; big = false }; len = length (with_newlines (plain_lines d kind)) }))
+    ∙ (λ i. Ok (record { head = record { raw = s.x.value i ∷ s.y.value i ∷ s.z.value i ∷ []; kind = kind; big = false; axes = unit_axes }; len = length (with_newlines (plain_lines d kind)) }))

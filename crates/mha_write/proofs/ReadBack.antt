@@ -47,7 +47,7 @@ answer_back v h limits within =
 
 pub reads_back : (v : Volume) → IsVolume v → (text : List ℕ) → text ≡ mha_file v → ReadsAs text v
 reads_back v h text is = subst (λ (t : List ℕ). ReadsAs t v) (sym is) (record {
-  head = head_back v.dims v.kind (bytes_of_samples v) h.sizes;
+  head = λ world. head_back world v.dims v.kind (bytes_of_samples v) h.sizes;
   volume = volume_back v h;
   answer = answer_back v h;
 })

@@ -9,7 +9,7 @@ ghost use Rattle.mha_write.specs.Text.{type_name, sizes_text, plain_head, mha_fi
 
 use itoa::Buffer;
 use sample_numbers::bytes_per_sample;
-use st_base::{Dims, Kind, NoMemory, Volume};
+use st_base::{Dims, Kind, NoMemory, Samples, Volume};
 use std::alloc::{AllocError, Global};
 
 // The lines of a head up to the sizes, and the name of the line of sizes.
@@ -77,13 +77,13 @@ fn push_sample(text: &mut Vec<u8>, sample: i64, size: usize) -> Result<(), Alloc
 }
 
 // The same of each sample.
-fn push_samples(text: &mut Vec<u8>, samples: &[i64], size: usize) -> Result<(), AllocError>
+fn push_samples(text: &mut Vec<u8>, samples: &Samples, size: usize) -> Result<(), AllocError>
     requires { size ≤ 8 }
     ensures { OnOk result (text.new.items ≡ text.old.items ++
-        flat_map (λ z. little_bytes size (cast_unsigned w64 z)) samples.now) }
+        flat_map (λ z. little_bytes size (cast_unsigned w64 z)) samples.now.numbers) }
 {
-    for sample in samples {
-        push_sample(text, *sample, size)?;
+    for n in 0..samples.len() {
+        push_sample(text, samples.get(n), size)?;
     }
     Ok(())
 }

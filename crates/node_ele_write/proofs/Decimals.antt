@@ -3,7 +3,7 @@ use Rattle.std.proofs.Common.{◌≡◌, ℕ, zero, suc, ◌+◌, ◌-◌, ◌*�
 use Rattle.std.specs.Prelude.{slice_set}
 use Rattle.std.proofs.Math.Nat.{pow-suc}
 use Rattle.std.proofs.lemmas.Bool.{cases_lt}
-use Rattle.std.proofs.lemmas.Fmt.{decimal_digit, decimal_step, length-decimal-le}
+use Rattle.std.proofs.lemmas.Fmt.{decimal_digit, decimal_step, decimal_step_wide, length-decimal-le}
 use Rattle.std.proofs.lemmas.List.{length-replicate, take_at, replicate-append-replicate}
 use Rattle.mesh_texts.specs.Coordinates.{padded_decimal}
 
@@ -26,14 +26,14 @@ padded_digit k n digit =
     let none_is : decimal 0 ≡ 48 ∷ [] = decimal_digit 0 below in
     rw (none, same, decimal_digit n digit, none_is) (ap (λ (zs : List ℕ). zs ++ ((48 + n) ∷ [])) {y = replicate (suc k - 1) 48 ++ (48 ∷ [])} zeros)
 
-padded_more : (k n : ℕ) → 10 ≤ n → n < 2 ^ 64 → padded_decimal (suc (suc k)) n ≡ padded_decimal (suc k) (n / 10) ++ ((48 + n % 10) ∷ [])
+padded_more : (k n : ℕ) → 10 ≤ n → n < 10 ^ 64 → padded_decimal (suc (suc k)) n ≡ padded_decimal (suc k) (n / 10) ++ ((48 + n % 10) ∷ [])
 padded_more k n more small =
     let front = decimal (n / 10) in
     let digit = 48 + n % 10 in
     let zeros : suc (suc k) - length (front ++ (digit ∷ [])) ≡ suc k - length front = omega (arith, length-append front (digit ∷ [])) in
-    rw (decimal_step n more small, zeros) (sym (append_assoc (replicate (suc k - length front) 48) front (digit ∷ [])))
+    rw (decimal_step_wide n more small, zeros) (sym (append_assoc (replicate (suc k - length front) 48) front (digit ∷ [])))
 
-padded_step : (k n : ℕ) → n < 2 ^ 64 → padded_decimal (suc (suc k)) n ≡ padded_decimal (suc k) (n / 10) ++ ((48 + n % 10) ∷ [])
+pub padded_step : (k n : ℕ) → n < 10 ^ 64 → padded_decimal (suc (suc k)) n ≡ padded_decimal (suc k) (n / 10) ++ ((48 + n % 10) ∷ [])
 padded_step k n small = elim (cases_lt n 10) [ inl digit ↦ padded_digit k n digit | inr more ↦ padded_more k n more small ]
 
 one_before_digit : (n : ℕ) → n < 10 → decimal (10 + n) ≡ 49 ∷ padded_decimal 1 n
@@ -49,7 +49,7 @@ one_before_more one k n some small front =
     rw (decimal_step (one * 10 + n) (omega arith) small, ten, rest, front) (ap (λ (ds : List ℕ). 49 ∷ ds) (sym (padded_step k n (omega arith))))
 
 -- a one in front of a padded number
-one_before : (k n : ℕ) → n < 10 ^ suc k → 10 ^ suc k + n < 2 ^ 64 → decimal (10 ^ suc k + n) ≡ 49 ∷ padded_decimal (suc k) n
+pub one_before : (k n : ℕ) → n < 10 ^ suc k → 10 ^ suc k + n < 2 ^ 64 → decimal (10 ^ suc k + n) ≡ 49 ∷ padded_decimal (suc k) n
 one_before zero n within small = one_before_digit n within
 one_before (suc k) n within small =
     let tens : 10 ^ suc (suc k) ≡ 10 ^ suc k * 10 = pow-suc 10 (suc k) in
@@ -58,7 +58,7 @@ one_before (suc k) n within small =
     let front : decimal (10 ^ suc k + n / 10) ≡ 49 ∷ padded_decimal (suc k) (n / 10) = one_before k (n / 10) (omega arith) (omega arith) in
     rw tens (one_before_more (10 ^ suc k) k n (omega arith) fits front)
 
-length_padded : (k n : ℕ) → 0 < k → n < 10 ^ k → n < 2 ^ 64 → length (padded_decimal k n) ≡ k
+pub length_padded : (k n : ℕ) → 0 < k → n < 10 ^ k → n < 2 ^ 64 → length (padded_decimal k n) ≡ k
 length_padded k n some within small =
     omega (arith, length-append (replicate (k - length (decimal n)) 48) (decimal n), length-replicate {A = ℕ} (k - length (decimal n)) 48, length-decimal-le k n some within small)
 

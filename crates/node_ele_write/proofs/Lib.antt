@@ -4,3 +4,5 @@ pub mod Growing
 pub mod Lines
 pub mod Pieces
 pub mod Rows
+pub mod WorldDecimals
+pub mod WorldValues

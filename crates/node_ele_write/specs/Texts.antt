@@ -1,5 +1,8 @@
 -- Numbers as texts behind a space.
-use Rattle.std.specs.Prelude.{◌≡◌, ℕ, ◌*◌, ◌^◌, ◌<◌, ◌≤◌, List, ◌∷◌, decimal, length, take}
+use Rattle.std.specs.Prelude.{◌≡◌, ℕ, ◌*◌, ◌^◌, ◌<◌, ◌≤◌, List, ◌∷◌, ◌++◌, decimal, length, take, ℤ}
+use Rattle.definitions.specs.declared.Place.{Place}
+use Rattle.formats.specs.declared.Frame.{Frame}
+use Rattle.mesh_texts.specs.Frames.{frame_text, world_text}
 use Rattle.mesh_texts.specs.Coordinates.{padded_decimal}
 
 -- a space and the digits
@@ -35,3 +38,18 @@ pub record FractionText : Type 0 where
 pub record IsFraction (f : FractionText) : Type 0 where
   pub text : take 14 f.bytes ≡ 46 ∷ padded_decimal 13 (f.parts * 5 ^ 13)
   pub part : f.parts < 8192
+
+-- the coordinates of a place, each behind a space, in front of a text
+abbrev pub place_before : Frame → Place → List ℕ → List ℕ
+place_before frame place rest =
+    32 ∷ (frame_text frame 0 place.x ++ (32 ∷ (frame_text frame 1 place.y ++ (32 ∷ (frame_text frame 2 place.z ++ rest)))))
+
+-- a coordinate in units of 10^-31 with bytes, of which the first `len` are its text behind a space
+pub record CoordinateText : Type 0 where
+  pub bytes : List ℕ
+  pub len : ℕ
+  pub value : ℤ
+
+pub record IsCoordinate (t : CoordinateText) : Type 0 where
+  pub text : take t.len t.bytes ≡ 32 ∷ world_text t.value
+  pub few : t.len ≤ 44

@@ -13,12 +13,16 @@
 mod fault;
 mod fractions;
 mod line;
+mod node;
+mod own_units;
 mod pen;
 mod put;
 mod report;
 mod row;
 mod text;
 mod texts;
+mod world;
+mod world_texts;
 
 pub use fault::PutFault;
 pub use line::{Line, ROOM};
@@ -26,3 +30,4 @@ pub use pen::Pen;
 pub use put::{WriteFault, put_all};
 pub use report::report_text;
 pub use text::{add, coordinate_text, counts_text, ele_line, node_line};
+pub use world::world_text;

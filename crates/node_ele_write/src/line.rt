@@ -1,4 +1,4 @@
-ghost use Rattle.std.specs.Prelude.{◌≡◌, ◌+◌, ◌*◌, ◌<◌, ◌≤◌, ◌^◌, [], ◌∷◌, ◌++◌, length, drop, decimal, unsigned_abs, OnOk, OnErr};
+ghost use Rattle.std.specs.Prelude.{◌≡◌, ◌+◌, ◌*◌, ◌<◌, ◌≤◌, ◌^◌, [], ◌∷◌, ◌++◌, length, take, drop, decimal, unsigned_abs, OnOk, OnErr};
 ghost use Rattle.mesh_texts.specs.Coordinates.{coordinate_text, padded_decimal};
 
 use itoa::write_digits;
@@ -6,7 +6,10 @@ use st_base::NoMemory;
 use std::marker::Model;
 
 /// No line has more bytes.
-pub const ROOM: usize = 112;
+pub const ROOM: usize = 160;
+
+/// How many bytes a copy of a short line has room for.
+pub const COPY: usize = 48;
 
 /// The fraction 1/8192 in units of the thirteenth decimal.
 pub const FRACTION: u64 = 1_220_703_125;
@@ -45,6 +48,13 @@ impl Line {
         }
     }
 
+    /// Makes the line empty again.
+    pub fn clear(&mut self)
+        ensures { self.new ≡ [] }
+    {
+        self.start = ROOM;
+    }
+
     /// Puts a byte in front.
     pub fn byte(&mut self, byte: u8)
         requires { length self.old < ROOM }
@@ -62,6 +72,14 @@ impl Line {
         ensures small { number < 2 ^ 32 → length self.new ≤ length self.old + 10 }
     {
         self.start = write_digits(number, &mut self.bytes, self.start);
+    }
+
+    /// Drops the first byte.
+    pub fn drop_first(&mut self)
+        requires { 0 < length self.old }
+        ensures { self.new ≡ drop 1 self.old }
+    {
+        self.start += 1;
     }
 
     // Another first byte.
@@ -96,6 +114,17 @@ impl Line {
         if value < 0 {
             self.byte(b'-');
         }
+    }
+
+    /// Copies the line to the front of a buffer, and answers how long it is.
+    pub fn copy_to(&self, to: &mut [u8; COPY]) -> usize
+        requires { length self.now ≤ COPY }
+        ensures text { take result to.new ≡ self.now }
+        ensures length { result ≡ length self.now }
+    {
+        let len = ROOM - self.start;
+        to[..len].copy_from_slice(&self.bytes[self.start..]);
+        len
     }
 
     /// Puts the line behind a text, or leaves the text as it is.

@@ -1,16 +1,19 @@
 ghost use Rattle.std.specs.Prelude.{◌≡◌, ◌+◌, ◌*◌, ◌^◌, ◌≤◌, ◌<◌, [], ◌∷◌, ◌++◌, decimal, OnOk, OnErr};
 ghost use Rattle.mesh_texts.specs.Coordinates.{padded_decimal};
+ghost use Rattle.mesh_texts.specs.Frames.{world_text};
 ghost use Rattle.node_ele_write.specs.Texts.{spaced};
 
 use crate::fractions::{DECIMALS, FRACTION_WIDTH, Fraction};
+use crate::line::COPY;
 use crate::texts::{Text, WIDTH};
+use crate::world_texts::WorldText;
 use itoa::write_digits;
 use st_base::NoMemory;
 use std::marker::Model;
 
-/// The bytes of a row: a number of 64 bits, four texts or three coordinates, the end of the line, and what follows
+/// The bytes of a row: a number of 64 bits, three coordinates, a marker, the end of the line, and what follows
 /// the last of them.
-pub const ROW: usize = 112;
+pub const ROW: usize = 160;
 
 /// Where the first number of a row ends.
 const FIRST: usize = 20;
@@ -88,6 +91,17 @@ impl Row {
     {
         self.bytes[self.end..self.end + FRACTION_WIDTH].copy_from_slice(fraction.bytes());
         self.end += DECIMALS;
+    }
+
+    /// Puts a coordinate behind a space at the end.
+    #[inline(always)]
+    pub fn world(&mut self, text: &WorldText)
+        requires { self.old.end + COPY ≤ ROW }
+        ensures text { self.new.text ≡ self.old.text ++ 32 ∷ world_text text.now.value }
+        ensures end { self.new.end ≤ self.old.end + 44 }
+    {
+        self.bytes[self.end..self.end + COPY].copy_from_slice(text.bytes());
+        self.end += text.len();
     }
 
     /// Puts the row behind a text, or leaves the text as it is.

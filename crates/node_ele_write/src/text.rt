@@ -4,8 +4,9 @@ ghost use Rattle.mesh_texts.specs.Lines.{node_line as node_line_lem, ele_line as
 ghost use Rattle.mesh_texts.specs.Files.{counts_text as counts_text_lem};
 ghost use Rattle.node_ele_write.specs.Printable.{IsPrintable};
 
-use crate::line::{Line, ROOM};
-use st_base::{NoMemory, Place};
+use crate::line::Line;
+use crate::node::put_node;
+use st_base::{Frame, NoMemory, Place};
 use std::alloc::Global;
 
 /// Appends `value`/8192 with 13 decimals, which is exact.
@@ -19,31 +20,20 @@ pub fn coordinate_text(out: &mut Vec<u8>, value: i64) -> Result<(), NoMemory>
     line.append_to(out)
 }
 
-// Puts a coordinate in raw voxel steps in front.
-fn put_stepped(line: &mut Line, step: u32, coordinate: i64)
-    requires small { unsigned_abs (pos step *ℤ coordinate) < 2 ^ 40 }
-    requires room { length line.old + 35 ≤ ROOM }
-    ensures text { line.new ≡ coordinate_text_lem (pos step *ℤ coordinate) ++ line.old }
-    ensures length { length line.new ≤ length line.old + 25 }
-{
-    line.coordinate(i64::from(step) * coordinate);
-}
-
-/// Appends the line of a node: its number, and `step` times its place, in raw voxel steps.
-pub fn node_line(out: &mut Vec<u8>, number: u32, place: Place, step: u32) -> Result<(), NoMemory>
-    requires { IsPrintable step place }
-    ensures text { OnOk result (out.new.items ≡ out.old.items ++ node_line_lem step (number, place)) }
+/// Appends the line of a node: its number, its place in a frame, and 1 where it is a level node, else 0.
+pub fn node_line(
+    out: &mut Vec<u8>,
+    number: u32,
+    place: Place,
+    frame: Frame,
+    level: bool,
+) -> Result<(), NoMemory>
+    requires { IsPrintable frame place }
+    ensures text { OnOk result (out.new.items ≡ out.old.items ++ node_line_lem frame (number, record { place = place; level = level })) }
     ensures unchanged { OnErr result (out.new.items ≡ out.old.items) }
 {
     let mut line = Line::new();
-    line.byte(b'\n');
-    put_stepped(&mut line, step, place.z);
-    line.byte(b' ');
-    put_stepped(&mut line, step, place.y);
-    line.byte(b' ');
-    put_stepped(&mut line, step, place.x);
-    line.byte(b' ');
-    line.number(u64::from(number));
+    put_node(&mut line, number, place, &frame, level);
     line.append_to(out)
 }
 

@@ -2,11 +2,12 @@
 #![tactic(auto)]
 
 ghost use Rattle.std.specs.Prelude.{◌≡◌, ◌≤◌, ◌≤ℤ◌, ◌<◌, ◌+◌, ◌-◌, ◌*◌, ◌/◌, ◌^◌, ◌++◌, All, IfOk, OnOk, pos};
+ghost use Rattle.formats.specs.declared.Kind.TheVariants.{Uchar};
 ghost use Rattle.phantom.specs.Noise.{next_state as state_after, state as state_of};
 ghost use Rattle.phantom.specs.Phantom.{square, off_middle as middle_square, faded as faded_sample, phantom_samples, phantom_volume};
 ghost use Rattle.phantom.specs.Rows.{row_samples};
 
-use st_base::{Dims, Kind, NoMemory, Volume};
+use st_base::{Dims, Kind, NoMemory, Samples, Volume};
 use std::alloc::{AllocError, Global};
 
 // The next state of the noise.
@@ -63,11 +64,13 @@ fn faded(n: u32, r: u32, state: u64) -> i64
 
 // The samples of a row at the end of others: `rest` is the sum of squares that its other two
 // coordinates have, and `state` the noise before it and then behind it.
-fn push_row(samples: &mut Vec<i64>, state: &mut u64, n: u32, rest: u32) -> Result<(), AllocError>
+fn push_row(samples: &mut Samples, state: &mut u64, n: u32, rest: u32) -> Result<(), AllocError>
+    requires kind { samples.old.kind ≡ Uchar }
     requires positive { 1 ≤ n }
     requires size { n ≤ 128 }
     requires within { rest ≤ 2 * square (n - 1) }
-    ensures numbers { OnOk result (samples.new.items ≡ samples.old.items ++ row_samples n rest state.old n) }
+    ensures kind { samples.new.kind ≡ Uchar }
+    ensures numbers { OnOk result (samples.new.numbers ≡ samples.old.numbers ++ row_samples n rest state.old n) }
     ensures state { OnOk result (state.new ≡ state_of state.old n) }
 {
     for x in 0..n {
@@ -79,12 +82,13 @@ fn push_row(samples: &mut Vec<i64>, state: &mut u64, n: u32, rest: u32) -> Resul
 
 // All samples.
 #[tactic(auto, unfolding(crate::specs::Phantom::phantom_samples))]
-fn samples(alloc: Global, n: u32, seed: u64) -> Result<Vec<i64>, AllocError>
+fn samples(alloc: Global, n: u32, seed: u64) -> Result<Samples, AllocError>
     requires positive { 1 ≤ n }
     requires size { n ≤ 128 }
-    ensures { IfOk result (λ v. v.items ≡ phantom_samples n seed) }
+    ensures kind { IfOk result (λ s. s.kind ≡ Uchar) }
+    ensures numbers { IfOk result (λ s. s.numbers ≡ phantom_samples n seed) }
 {
-    let mut samples = Vec::with_capacity(alloc, (n * n * n) as usize)?;
+    let mut samples = Samples::with_capacity(alloc, Kind::Uchar, (n * n * n) as usize)?;
     let mut state = seed;
     for row in 0..n * n {
         let rest = off_middle(n, row % n) + off_middle(n, row / n);
@@ -98,7 +102,7 @@ fn samples(alloc: Global, n: u32, seed: u64) -> Result<Vec<i64>, AllocError>
 ///
 /// ```rust
 /// let volume = phantom(alloc, 1, 7)?;
-/// assert_eq!(rt; volume.samples(), [248].as_slice());
+/// assert_eq!(rt; volume.sample(0, 0, 0), 248);
 /// ```
 pub fn phantom(alloc: Global, n: u32, seed: u64) -> Result<Volume, NoMemory>
     requires positive { 1 ≤ n }
@@ -111,7 +115,7 @@ pub fn phantom(alloc: Global, n: u32, seed: u64) -> Result<Volume, NoMemory>
         nz: n,
     };
     match samples(alloc, n, seed) {
-        Ok(samples) => Ok(Volume::new(dims, 1, Kind::Uchar, samples)),
+        Ok(samples) => Ok(Volume::new(dims, 1, samples)),
         Err(_) => Err(NoMemory),
     }
 }

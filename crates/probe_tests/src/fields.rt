@@ -1,36 +1,14 @@
-ghost use Rattle.std.specs.Prelude.{All, IfSome, negsuc, pos, true, unsigned_abs, ◌<◌, ◌^◌, ◌≡◌, ◌≤ℤ◌};
-ghost use Rattle.std.specs.Bool.{OnTrue};
+ghost use Rattle.std.specs.Prelude.{IfSome, true, unsigned_abs, ◌<◌, ◌^◌, ◌≡◌};
 
 use bcc_lattice::vertex_count;
 use command_line::Plan;
-use mesh_probe::{hold_number, probe};
-use samples::{Field, Level};
+use mesh_probe::{hold_number, probe, probe_line};
+use samples::Field;
 use snap_rule::Shares;
-use st_base::{Dims, Kind, OpenGate, Place, Tally, Volume};
+use st_base::{OpenGate, Place, Tally};
 use std::alloc::Global;
 use std::thread::Threads;
 use survey::{Survey, survey};
-
-fn are_short(samples: &[i64]) -> bool
-    ensures low { OnTrue result (All (λ z. negsuc 32767 ≤ℤ z) samples.now) }
-    ensures high { OnTrue result (All (λ z. z ≤ℤ pos 32767) samples.now) }
-{
-    samples.iter().all(|s| -32768 <= *s && *s <= 32767)
-}
-
-/// The field of a small image at the level 1/2.
-pub fn field_of(alloc: Global, dims: Dims, samples: Vec<i64>) -> Option<Field> {
-    let Dims { nx, ny, nz } = dims;
-    if nx < 1 || nx > 9 || ny < 1 || ny > 9 || nz < 1 || nz > 9 {
-        return None;
-    }
-    if samples.len() != (nx * ny * nz) as usize || !are_short(&samples) {
-        return None;
-    }
-    let volume = Volume::new(dims, 1, Kind::Short, samples);
-    let level = Level::new(1)?;
-    Field::new(alloc, &volume, level, false).ok()
-}
 
 /// The survey of a field by one worker.
 pub fn survey_of<'f, R: Threads + Sync>(
@@ -80,4 +58,21 @@ pub fn held_at(survey: &Survey, point: Place) -> Option<(Option<Held>, u64)> {
     let number = hold_number(field, shares, survey.states(), survey.offsets(), &hold);
     let weights = hold.weights;
     Some((Some(Held { number, weights }), ledger.count()))
+}
+
+/// The line that tells of a point; none where the point is too far away, or memory runs out.
+pub fn line_at(alloc: Global, survey: &Survey, point: Place) -> Option<Vec<u8>> {
+    if !is_small(point.x) || !is_small(point.y) || !is_small(point.z) {
+        return None;
+    }
+    let field = survey.field();
+    probe_line(
+        alloc,
+        field,
+        survey.shares(),
+        survey.states(),
+        survey.offsets(),
+        point,
+    )
+    .ok()
 }

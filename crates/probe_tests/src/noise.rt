@@ -1,5 +1,6 @@
-use crate::fields::{Held, field_of, held_at, survey_of};
+use crate::fields::{Held, held_at, survey_of};
 use mesh_lists::{Mesh, build_mesh};
+use small_images::field_of;
 use snap_rule::Shares;
 use st_base::{Dims, Place};
 use std::alloc::Global;
@@ -104,7 +105,7 @@ fn points_in_noise_are_found_as_by_looking_through_all(rt: HostRuntime) {
     let alloc = rt.alloc();
     let shares = Shares::new(1023, 1687).expect(&rt, "shares");
     let samples = noise(alloc).expect(&rt, "memory");
-    let field = field_of(alloc, DIMS, samples).expect(&rt, "a field");
+    let field = field_of(alloc, DIMS, &samples, 1, false).expect(&rt, "a field");
     let survey = survey_of(&rt, alloc, &field, shares).expect(&rt, "a survey");
     let mesh = build_mesh(alloc, &field, shares).expect(&rt, "memory");
     for n in 0..99u8 {

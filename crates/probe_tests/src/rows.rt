@@ -1,7 +1,7 @@
-use crate::fields::{Held, field_of, held_at, survey_of};
+use crate::fields::{held_at, line_at, survey_of};
+use small_images::field_of;
 use snap_rule::Shares;
 use st_base::{Dims, Place};
-use std::alloc::Global;
 
 // The sample of an image of one; a point; what is told of it.
 const ROWS: &str = "\
@@ -43,15 +43,6 @@ fn point_of(text: &str) -> Option<Place> {
     })
 }
 
-// The line that tells of a point.
-fn line_of(alloc: Global, held: Option<Held>) -> Option<String> {
-    let Some(held) = held else {
-        return String::from_str(alloc, "outside").ok();
-    };
-    let [a, b, c, d] = held.weights;
-    format!(in alloc; "tetrahedron {} weights {a} {b} {c} {d}", held.number).ok()
-}
-
 #[test]
 fn points_in_the_mesh_of_one_sample(rt: HostRuntime) {
     let alloc = rt.alloc();
@@ -60,16 +51,13 @@ fn points_in_the_mesh_of_one_sample(rt: HostRuntime) {
         let (sample, rest) = row.split_once(" | ").expect(&rt, "a sample");
         let (point, wanted) = rest.split_once(" | ").expect(&rt, "a point");
         let samples = if sample == "1" { [1i64] } else { [0i64] };
-        let samples = Vec::from_slice(alloc, &samples).expect(&rt, "memory");
-        let field = field_of(alloc, ONE, samples).expect(&rt, "a field");
+        let field = field_of(alloc, ONE, &samples, 1, false).expect(&rt, "a field");
         let survey = survey_of(&rt, alloc, &field, shares).expect(&rt, "a survey");
         let point = point_of(point).expect(&rt, "a point");
-        let (held, states) = held_at(&survey, point).expect(
-            &rt,
-            "a point that is not too far away",
-        );
-        let line = line_of(alloc, held).expect(&rt, "memory");
-        assert_eq!(rt; line.as_str(), wanted);
+        let (_, states) = held_at(&survey, point).expect(&rt, "a point that is not too far away");
+        let line = line_at(alloc, &survey, point).expect(&rt, "memory");
+        let wanted = format!(in alloc; "{wanted}\n").expect(&rt, "memory");
+        assert_eq!(rt; line.as_slice(), wanted.as_bytes());
         assert!(rt; states <= 288);
     }
 }

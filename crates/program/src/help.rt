@@ -3,7 +3,7 @@ pub const HELP: &str = "\
 stuff: tetrahedral meshes of volumes, by isosurface stuffing
 
   mesh IN OUT level=L [below=yes] [step=S] [long=A] [short=B]
-       [workers=W] [slab=T]
+       [workers=W] [slab=T] [first=F] [units=U]
               fill the region above the level with tetrahedra: write OUT.node
               and OUT.ele (TetGen), and print the numbers of nodes and
               tetrahedra and the least and the greatest dihedral angle
@@ -27,6 +27,10 @@ compressed, and its data in the same file.
             a vertex is moved onto a cut of the surface that is at most A or
             B of 4096 parts of a long or short edge away: A up to 1023, B up
             to 2047 (default 1023 and 1687)
+  first=F   number nodes and tetrahedra from F, 0 or 1 (default 0)
+  units=U   coordinates in voxels of the file (index, the default) or in the
+            units of the head (world): each times ElementSpacing of its axis,
+            plus Offset; angles are those of the mesh in voxels
   size=N, seed=S
             N from 1 to 128, S from 0 to 18446744073709551615 (no default)
   workers=W, slab=T

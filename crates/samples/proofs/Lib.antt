@@ -1,3 +1,4 @@
+pub mod Fields
 pub mod ValuesAt
 pub mod Sums
 pub mod SignCounts

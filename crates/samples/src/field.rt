@@ -6,7 +6,7 @@ ghost use Rattle.samples.specs.Rows.{row_start, is_row_inside, difference_along,
 
 use crate::level::Level;
 use crate::sign::sign_of;
-use st_base::{Dims, NoMemory, Sign, Vertex, Volume};
+use st_base::{Dims, NoMemory, Samples, Sign, Vertex, Volume};
 use std::alloc::Global;
 use std::marker::Model;
 
@@ -23,17 +23,19 @@ use std::marker::Model;
 #[derive(Drop)]
 pub struct Field {
     dims: Dims,
-    differences: Vec<i64>,
+    samples: Samples,
+    level: Level,
+    below: bool,
 }
 
 impl Model for Field {
-    ghost use Rattle.definitions.specs.Values.{Field as FieldValue, IsField};
+    ghost use Rattle.definitions.specs.Values.{Field as FieldValue, IsField, field_of};
 
     ghost Value = { FieldValue };
 
-    ghost view = { λ f. record { dims = f.dims; differences = f.differences.items } };
+    ghost view = { λ f. field_of f.dims f.samples.numbers f.level f.below };
 
-    ghost invariant = { λ f. IsField (record { dims = f.dims; differences = f.differences.items }) };
+    ghost invariant = { λ f. IsField (field_of f.dims f.samples.numbers f.level f.below) };
 }
 
 /// What is the same in all of a row of corners along x: where its nearest samples start, and whether
@@ -52,12 +54,29 @@ impl Field {
     /// let field = Field::new(alloc, &volume, level, false)?;
     /// let value = field.value(Vertex { h: 2, y: 2, x: 2 });
     /// ```
+    #[tactic(auto, using(crate::proofs::Fields::field_of_parts))]
     pub fn new(alloc: Global, volume: &Volume, level: Level, below: bool) -> Result<Field, NoMemory>
         ensures { IfOk result (λ field. field ≡ field_of volume.now.dims volume.now.samples level below) }
     {
-        let dims = volume.dims();
-        let differences = differences(alloc, volume, level, below)?;
-        Ok(Field { dims, differences })
+        Ok(Field {
+            dims: volume.dims(),
+            samples: volume.samples().copy(alloc)?,
+            level,
+            below,
+        })
+    }
+
+    /// The same of a volume that is given up: its samples are taken over, and no memory is asked for.
+    #[tactic(auto, using(crate::proofs::Fields::field_of_parts))]
+    pub fn of_volume(volume: Volume, level: Level, below: bool) -> Field
+        ensures { result ≡ field_of volume.dims volume.samples level below }
+    {
+        Field {
+            dims: volume.dims(),
+            samples: volume.into_samples(),
+            level,
+            below,
+        }
     }
 
     /// The sizes of the image.
@@ -66,6 +85,15 @@ impl Field {
         ensures field { IsField self.now }
     {
         self.dims
+    }
+
+    /// Difference `n`, from 0.
+    #[inline(always)]
+    fn number(&self, n: usize) -> i64
+        requires { n < length self.now.differences }
+        ensures { result ≡ slice_index_or self.now.differences n (pos 0) }
+    {
+        difference(self.level, self.below, self.samples.get(n))
     }
 
     fn row(&self, j: u32, k: u32) -> Row
@@ -81,6 +109,7 @@ impl Field {
         }
     }
 
+    #[inline]
     #[tactic(auto, unfolding(crate::specs::Rows::difference_along))]
     fn difference_along(&self, row: Row, i: u32) -> i64
         requires room { row.start + self.now.dims.nx ≤ length self.now.differences }
@@ -89,7 +118,7 @@ impl Field {
         ensures sizes { IsDims self.now.dims }
     {
         let nx = self.dims.nx;
-        let near = number(&self.differences, row.start + nearest(nx, i) as usize);
+        let near = self.number(row.start + nearest(nx, i) as usize);
         padded(is_inside(nx, i) && row.inside, near)
     }
 
@@ -121,7 +150,7 @@ impl Field {
     {
         let Dims { nx, ny, .. } = self.dims;
         let row = (k as usize - 1) * ny as usize + (j as usize - 1);
-        number(&self.differences, row * nx as usize + (i as usize - 1))
+        self.number(row * nx as usize + (i as usize - 1))
     }
 
     #[inline(always)]
@@ -261,27 +290,7 @@ impl Field {
     }
 }
 
-fn differences(
-    alloc: Global,
-    volume: &Volume,
-    level: Level,
-    below: bool,
-) -> Result<Vec<i64>, NoMemory>
-    ensures value { IfOk result (λ v. v.items ≡ map (difference level below) volume.now.samples) }
-    ensures field { IfOk result (λ v. IsField (record { dims = volume.now.dims; differences = v.items })) }
-{
-    let samples = volume.samples();
-    let Ok(mut differences) = Vec::with_capacity(alloc, samples.len()) else {
-        return Err(NoMemory);
-    };
-    for sample in samples {
-        if differences.push(difference(level, below, *sample)).is_err() {
-            return Err(NoMemory);
-        }
-    }
-    Ok(differences)
-}
-
+#[inline(always)]
 fn difference(level: Level, below: bool, sample: i64) -> i64
     requires { unsigned_abs sample ≤ 2 ^ 32 }
     ensures value { result ≡ difference level below sample }
@@ -294,13 +303,6 @@ fn difference(level: Level, below: bool, sample: i64) -> i64
     } else {
         doubled - twice
     }
-}
-
-fn number(numbers: &[i64], n: usize) -> i64
-    requires { n < length numbers.now }
-    ensures { result ≡ slice_index_or numbers.now n (pos 0) }
-{
-    numbers[n]
 }
 
 fn nearest(n: u32, i: u32) -> u32

@@ -1,5 +1,5 @@
 -- What contracts see of that from which lines are made, and the lines and the angles of its slabs.
-use Rattle.std.specs.Prelude.{◌≡◌, ⊤, ℕ, List, [], All, Option, None}
+use Rattle.std.specs.Prelude.{◌≡◌, ◌≤◌, ⊤, ℕ, List, [], All, Option, None}
 use Rattle.bcc_lattice.specs.Layouts.{IsLayout}
 use Rattle.definitions.specs.declared.Dims.{Dims}
 use Rattle.definitions.specs.declared.State.{State}
@@ -38,8 +38,8 @@ pub record FitSource (s : SourceValue) (dims : Dims) (counts : List LayerCount) 
 
 -- the lines of slab j
 abbrev pub slab_lines : Lines → SourceValue → ℕ → List ℕ
-slab_lines (Nodes step) s j = span_node_lines step s.field s.states (slab_from s.slab j) (slab_to s.field.dims s.slab j)
-slab_lines Tets s j = span_tet_lines s.field.dims s.states (slab_from s.slab j) (slab_to s.field.dims s.slab j)
+slab_lines (Nodes frame first) s j = span_node_lines frame first s.field s.states (slab_from s.slab j) (slab_to s.field.dims s.slab j)
+slab_lines (Tets first) s j = span_tet_lines first s.field.dims s.states (slab_from s.slab j) (slab_to s.field.dims s.slab j)
 slab_lines Angles s j = []
 
 -- the angles of slab j
@@ -48,12 +48,12 @@ slab_angles s j = span_angles s.field s.states (slab_from s.slab j) (slab_to s.f
 
 -- their extremes, none with the lines of nodes
 abbrev pub slab_extremes : Lines → SourceValue → ℕ → Option Extremes
-slab_extremes (Nodes step) s j = None
-slab_extremes Tets s j = extremes_of (slab_angles s j)
+slab_extremes (Nodes frame first) s j = None
+slab_extremes (Tets first) s j = extremes_of (slab_angles s j)
 slab_extremes Angles s j = extremes_of (slab_angles s j)
 
--- the nodes can be printed, where nodes are asked for
+-- numbers begin at 0 or 1, and the nodes can be printed, where lines are asked for
 abbrev pub CanPrint : Lines → SourceValue → Type 0
-CanPrint (Nodes step) s = All (IsPrintable step) (mesh_of s.field s.states).places
-CanPrint Tets s = ⊤
+CanPrint (Nodes frame first) s = (first ≤ 1) × All (IsPrintable frame) (mesh_of s.field s.states).places
+CanPrint (Tets first) s = first ≤ 1
 CanPrint Angles s = ⊤

@@ -30,7 +30,9 @@ pub fn part_of(
     ensures { IfOk result (IsPart lines source.now j) }
 {
     match lines {
-        Lines::Nodes { step } => match source.node_text(alloc, tools, j, step) {
+        Lines::Nodes { frame, numbering } => match source.node_text(
+            alloc, tools, j, &frame, numbering,
+        ) {
             Ok(text) => Ok(Part {
                 slab: j,
                 text,
@@ -38,7 +40,7 @@ pub fn part_of(
             }),
             Err(fault) => Err(fault),
         },
-        Lines::Tets => match source.tet_text(alloc, tools, j) {
+        Lines::Tets { numbering } => match source.tet_text(alloc, tools, j, numbering) {
             Ok(made) => Ok(Part {
                 slab: j,
                 text: made.text,

@@ -208,7 +208,7 @@ fn collect(alloc: Global, places: &mut [Place]) -> Result<Vec<Part>, NoMemory>
 ///
 /// ```
 /// let mut crew = Crew::new(alloc, 4);
-/// let parts = emit(rt, alloc, &source, Lines::Tets, &mut crew, &OpenGate, 0)?;
+/// let parts = emit(rt, alloc, &source, Lines::Tets { numbering: 0 }, &mut crew, &OpenGate, 0)?;
 /// assert_eq!(parts[0].slab, 0);
 /// ```
 pub fn emit<G: Gate + Sync, R: Threads + Sync>(

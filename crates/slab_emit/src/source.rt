@@ -14,7 +14,7 @@ use dihedral::Extremes;
 use samples::Field;
 use slab_texts::{TetText, Tools, node_text, tet_extremes, tet_text};
 use snap_rule::States;
-use st_base::NoMemory;
+use st_base::{Frame, NoMemory};
 use std::alloc::Global;
 use std::marker::Model;
 use vertex_numbers::Offsets;
@@ -95,12 +95,14 @@ impl<'a> Source<'a> {
         alloc: Global,
         tools: &mut Tools,
         j: u32,
-        step: u32,
+        frame: &Frame,
+        numbering: u32,
     ) -> Result<Vec<u8>, NoMemory>
         requires slab { j < slabs self.now.field.dims self.now.slab }
-        requires printable { All (IsPrintable step) (mesh_of self.now.field self.now.states).places }
+        requires numbering { numbering ≤ 1 }
+        requires printable { All (IsPrintable frame.now) (mesh_of self.now.field self.now.states).places }
         ensures { IfOk result (λ text. text.items
-            ≡ span_node_lines step self.now.field self.now.states (slab_from self.now.slab j) (slab_to self.now.field.dims self.now.slab j)) }
+            ≡ span_node_lines frame.now numbering self.now.field self.now.states (slab_from self.now.slab j) (slab_to self.now.field.dims self.now.slab j)) }
     {
         let (from, to) = self.layout().layers_of(j);
         node_text(
@@ -111,15 +113,23 @@ impl<'a> Source<'a> {
             self.offsets,
             from,
             to,
-            step,
+            frame,
+            numbering,
         )
     }
 
     /// The lines of the tetrahedra of slab `j`, and the extremes of their angles.
-    pub fn tet_text(&self, alloc: Global, tools: &mut Tools, j: u32) -> Result<TetText, NoMemory>
+    pub fn tet_text(
+        &self,
+        alloc: Global,
+        tools: &mut Tools,
+        j: u32,
+        numbering: u32,
+    ) -> Result<TetText, NoMemory>
         requires slab { j < slabs self.now.field.dims self.now.slab }
+        requires numbering { numbering ≤ 1 }
         ensures text { IfOk result (λ t. t.text.items
-            ≡ span_tet_lines self.now.field.dims self.now.states (slab_from self.now.slab j) (slab_to self.now.field.dims self.now.slab j)) }
+            ≡ span_tet_lines numbering self.now.field.dims self.now.states (slab_from self.now.slab j) (slab_to self.now.field.dims self.now.slab j)) }
         ensures extremes { IfOk result (λ t. t.extremes ≡ extremes_of (slab_angles self.now j)) }
         ensures fractions { IfOk result (λ t. ForSome t.extremes AreFractions) }
     {
@@ -132,6 +142,7 @@ impl<'a> Source<'a> {
             self.offsets,
             from,
             to,
+            numbering,
         )
     }
 

@@ -1,12 +1,12 @@
 -- Lines of tetrahedra, one after another.
-use Rattle.std.proofs.Common.{◌≡◌, ℕ, ◌+◌, ◌<◌, arith, refl, sym, ◌∙◌, ap, subst, Bool, true, false, List, [], ◌++◌, All, length, get_or, take, length-append, append_assoc, append-nil}
+use Rattle.std.proofs.Common.{◌≡◌, ℕ, ◌+◌, arith, refl, sym, ◌∙◌, ap, subst, Bool, true, false, List, [], ◌++◌, All, length, map, length-append, append_assoc, append-nil}
 use Rattle.std.specs.Prelude.{flat_map}
-use Rattle.std.proofs.lemmas.List.{get_or_append_left, get_or-append-add}
+use Rattle.std.proofs.lemmas.List.{get_or_append_left, get_or-append-add, length-map, map-append}
 use Rattle.std.specs.List.{enumerate_from}
 use Rattle.definitions.specs.declared.Place.{Place}
 use Rattle.definitions.specs.Angles.{angles_of, extremes_of}
-use Rattle.mesh_lists.proofs.NumberedLists.{numbered_append, numbered_more}
-use Rattle.mesh_texts.specs.Lines.{ele_line}
+use Rattle.mesh_lists.proofs.NumberedLists.{numbered_append}
+use Rattle.mesh_texts.specs.Lines.{ele_line, ele_lines, renumbered}
 use Rattle.slab_texts.specs.declared.lines.TetLines.{TetLines}
 use Rattle.slab_texts.specs.Texts.{AddsTets, lines_if}
 
@@ -18,19 +18,25 @@ pub all_right : {X : Type 0} (P : X → Type 0) (xs ys : List X) → All P (xs +
 all_right P xs ys h = λ k d lt. subst P (get_or-append-add xs ys k d) (h (length xs + k) d (let l = length-append xs ys in omega arith))
 
 -- lines of both
-pub lines_then : (writes : Bool) (from : ℕ) (xs ys : List (List ℕ)) → lines_if writes from xs ++ lines_if writes (from + length xs) ys ≡ lines_if writes from (xs ++ ys)
-lines_then true from xs ys = sym (numbered_append ele_line from xs ys)
-lines_then false from xs ys = refl
+pub lines_then : (writes : Bool) (first from : ℕ) (xs ys : List (List ℕ)) → lines_if writes first from xs ++ lines_if writes first (from + length xs) ys ≡ lines_if writes first from (xs ++ ys)
+lines_then true first from xs ys =
+    ap (λ n. ele_lines (first + from) (map (renumbered first) xs) ++ ele_lines n (map (renumbered first) ys)) (behind first from (length xs) (length (map (renumbered first) xs)) (length-map xs (renumbered first)))
+    ∙ sym (numbered_append ele_line (first + from) (map (renumbered first) xs) (map (renumbered first) ys)) ∙ ap (ele_lines (first + from)) (sym (map-append (renumbered first) xs ys))
+  where
+    behind : (a b n m : ℕ) → m ≡ n → a + (b + n) ≡ a + b + m
+    behind a b n m e = omega arith
+lines_then false first from xs ys = refl
 
-no_lines : (writes : Bool) (from : ℕ) → [] ≡ lines_if writes from []
-no_lines true from = refl
-no_lines false from = refl
+no_lines : (writes : Bool) (first from : ℕ) → [] ≡ lines_if writes first from []
+no_lines true first from = refl
+no_lines false first from = refl
 
 module _ (places : List Place) where
   pub adds_none : (a : TetLines) → AddsTets places a [] a
   adds_none a = record {
-    text = sym (append-nil a.text.items) ∙ ap (λ l. a.text.items ++ l) (no_lines a.writes a.number);
+    text = sym (append-nil a.text.items) ∙ ap (λ l. a.text.items ++ l) (no_lines a.writes a.numbering a.number);
     writes = refl;
+    numbering = refl;
     number = (let e : a.number ≡ a.number + 0 = omega arith in e);
     angles = λ xs e. e ∙ ap extremes_of (sym (append-nil xs));
   }
@@ -40,9 +46,11 @@ module _ (places : List Place) where
       let next : b.number ≡ a.number + length xs = h.number in
       record {
         text =
-            k.text ∙ (λ i. h.text i ++ lines_if (h.writes i) (next i) ys) ∙ append_assoc a.text.items (lines_if a.writes a.number xs) (lines_if a.writes (a.number + length xs) ys)
-            ∙ ap (λ l. a.text.items ++ l) (lines_then a.writes a.number xs ys);
+            k.text ∙ (λ i. h.text i ++ lines_if (h.writes i) (h.numbering i) (next i) ys)
+            ∙ append_assoc a.text.items (lines_if a.writes a.numbering a.number xs) (lines_if a.writes a.numbering (a.number + length xs) ys)
+            ∙ ap (λ l. a.text.items ++ l) (lines_then a.writes a.numbering a.number xs ys);
         writes = k.writes ∙ h.writes;
+        numbering = k.numbering ∙ h.numbering;
         number = (let e = k.number in let l = length-append xs ys in omega arith);
         angles = λ zs e.
             (k.angles (zs ++ flat_map (angles_of places) (enumerate_from a.number xs)) (h.angles zs e)
@@ -51,8 +59,3 @@ module _ (places : List Place) where
             ∙ append_assoc zs (flat_map (angles_of places) (enumerate_from a.number xs)) (flat_map (angles_of places) (enumerate_from (a.number + length xs) ys))
             ∙ ap (λ l. zs ++ l) (sym (numbered_append (angles_of places) a.number xs ys))));
       }
-
--- one more numbered line
-pub line_more : {X : Type 0} (f : ℕ × X → List ℕ) (from n : ℕ) (xs : List X) (d : X) (a b c : List ℕ) → n < length xs → b ≡ a ++ flat_map f (enumerate_from from (take n xs)) → c ≡ b ++ f (from + n, get_or xs n d) → c ≡ a ++ flat_map f (enumerate_from from (take (n + 1) xs))
-line_more f from n xs d a b c lt e g =
-    g ∙ ap (λ l. l ++ f (from + n, get_or xs n d)) e ∙ append_assoc a (flat_map f (enumerate_from from (take n xs))) (f (from + n, get_or xs n d)) ∙ ap (λ l. a ++ l) (sym (numbered_more f from n xs d lt))

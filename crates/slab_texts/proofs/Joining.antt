@@ -11,18 +11,20 @@ use Rattle.definitions.specs.declared.State.{State}
 use Rattle.definitions.specs.Angles.{angles, angles_of}
 use Rattle.definitions.specs.Lattice.{layers}
 use Rattle.definitions.specs.Layout.{slab_from, slab_to, slabs}
-use Rattle.definitions.specs.Mesh.{layer_node_keys, layer_pieces, node_keys, node_place, number_of}
+use Rattle.definitions.specs.Mesh.{layer_node_keys, layer_pieces, node_keys, number_of}
 use Rattle.definitions.specs.Soundness.{corner_places}
 use Rattle.definitions.specs.Values.{Field}
 use Rattle.dihedral.specs.Fractions.{IsAngle}
 use Rattle.dihedral.proofs.AnglesAreFractions.{six_are_angles}
 use Rattle.lattice_laws.proofs.Sublists.{all_by_place, all_from_place}
 use Rattle.std.specs.List.{AllByRecursion}
-use Rattle.mesh_texts.specs.Lines.{ele_line, ele_lines, node_line, node_lines}
+use Rattle.formats.specs.declared.Frame.{Frame}
+use Rattle.mesh_texts.specs.Nodes.{node_of_key, nodes_of}
+use Rattle.mesh_texts.specs.Lines.{ele_line, ele_lines, node_line, node_lines, renumbered}
 use Rattle.mesh_lists.proofs.NumberedLists.{numbered_append}
 use Rattle.mesh_lists.specs.Parts.{mesh_of, numbered}
 use Rattle.slab_texts.specs.Laws.{AllSlabsJoin, AllSpansAreAll, AllSpansJoin, AnglesAreFractions}
-use Rattle.slab_texts.specs.Spans.{nodes_below, span_angles, span_keys, span_node_lines, span_pieces, span_places, span_tet_lines, span_tets, tets_below}
+use Rattle.slab_texts.specs.Spans.{nodes_below, span_angles, span_keys, span_node_lines, span_nodes, span_pieces, span_tet_lines, span_tets, tets_below}
 use Rattle.slab_texts.specs.Texts.{IsMeasured}
 use Rattle.slab_texts.proofs.Adding.{all_left, all_right}
 use Rattle.slab_texts.proofs.Spans.{all_keys, all_of_pieces, keys_then, pieces_then}
@@ -32,14 +34,20 @@ numbered_then : {X Y : Type 0} (f : ℕ × X → List Y) (a b : ℕ) (xs ys zs :
 numbered_then f a b xs ys zs e h =
     ap (λ n. flat_map f (enumerate_from a xs) ++ flat_map f (enumerate_from n ys)) e ∙ sym (numbered_append f a xs ys) ∙ ap (λ l. flat_map f (enumerate_from a l)) (sym h)
 
-module _ (f : Field) (ss : List State) where
-  places_then : (from mid to : ℕ) → from ≤ mid → mid ≤ to → span_places f ss from to ≡ span_places f ss from mid ++ span_places f ss mid to
-  places_then from mid to h k = ap (map (node_place f ss)) (keys_then f.dims ss from mid to h k) ∙ map-append (node_place f ss) (span_keys f.dims ss from mid) (span_keys f.dims ss mid to)
+behind : (first a b n : ℕ) → b ≡ a + n → first + b ≡ first + a + n
+behind first a b n e = omega arith
 
-  nodes_then : (from mid : ℕ) → from ≤ mid → nodes_below f.dims ss mid ≡ nodes_below f.dims ss from + length (span_places f ss from mid)
+none_behind : (first n : ℕ) → n ≡ 0 → first + n ≡ first
+none_behind first n e = omega arith
+
+module _ (f : Field) (ss : List State) where
+  nodes_join : (from mid to : ℕ) → from ≤ mid → mid ≤ to → span_nodes f ss from to ≡ span_nodes f ss from mid ++ span_nodes f ss mid to
+  nodes_join from mid to h k = ap (map (node_of_key f ss)) (keys_then f.dims ss from mid to h k) ∙ map-append (node_of_key f ss) (span_keys f.dims ss from mid) (span_keys f.dims ss mid to)
+
+  nodes_then : (from mid : ℕ) → from ≤ mid → nodes_below f.dims ss mid ≡ nodes_below f.dims ss from + length (span_nodes f ss from mid)
   nodes_then from mid h =
       ap length (keys_then f.dims ss 0 from mid (omega arith) h) ∙ length-append (span_keys f.dims ss 0 from) (span_keys f.dims ss from mid)
-      ∙ ap (λ n. nodes_below f.dims ss from + n) (sym (length-map (span_keys f.dims ss from mid) (node_place f ss)))
+      ∙ ap (λ n. nodes_below f.dims ss from + n) (sym (length-map (span_keys f.dims ss from mid) (node_of_key f ss)))
 
   tets_then : (from mid to : ℕ) → from ≤ mid → mid ≤ to → span_tets f.dims ss from to ≡ span_tets f.dims ss from mid ++ span_tets f.dims ss mid to
   tets_then from mid to h k =
@@ -50,15 +58,19 @@ module _ (f : Field) (ss : List State) where
       ap length (pieces_then f.dims ss 0 from mid (omega arith) h) ∙ length-append (span_pieces f.dims ss 0 from) (span_pieces f.dims ss from mid)
       ∙ ap (λ n. tets_below f.dims ss from + n) (sym (length-map (span_pieces f.dims ss from mid) (map (number_of (node_keys f.dims ss)))))
 
-  node_lines_then : (step from mid to : ℕ) → from ≤ mid → mid ≤ to → span_node_lines step f ss from mid ++ span_node_lines step f ss mid to ≡ span_node_lines step f ss from to
+  node_lines_then : (frame : Frame) (first from mid to : ℕ) → from ≤ mid → mid ≤ to → span_node_lines frame first f ss from mid ++ span_node_lines frame first f ss mid to ≡ span_node_lines frame first f ss from to
   unfolding span_node_lines
-  node_lines_then step from mid to h k =
-      numbered_then (node_line step) (nodes_below f.dims ss from) (nodes_below f.dims ss mid) (span_places f ss from mid) (span_places f ss mid to) (span_places f ss from to) (nodes_then from mid h) (places_then from mid to h k)
+  node_lines_then frame first from mid to h k =
+      numbered_then (node_line frame) (first + nodes_below f.dims ss from) (first + nodes_below f.dims ss mid) (span_nodes f ss from mid) (span_nodes f ss mid to) (span_nodes f ss from to) (behind first _ _ _ (nodes_then from mid h)) (nodes_join from mid to h k)
 
-  tet_lines_then : (from mid to : ℕ) → from ≤ mid → mid ≤ to → span_tet_lines f.dims ss from mid ++ span_tet_lines f.dims ss mid to ≡ span_tet_lines f.dims ss from to
+  tet_lines_then : (first from mid to : ℕ) → from ≤ mid → mid ≤ to → span_tet_lines first f.dims ss from mid ++ span_tet_lines first f.dims ss mid to ≡ span_tet_lines first f.dims ss from to
   unfolding span_tet_lines
-  tet_lines_then from mid to h k =
-      numbered_then ele_line (tets_below f.dims ss from) (tets_below f.dims ss mid) (span_tets f.dims ss from mid) (span_tets f.dims ss mid to) (span_tets f.dims ss from to) (counts_then from mid h) (tets_then from mid to h k)
+  tet_lines_then first from mid to h k =
+      let again = map (renumbered first) in
+      let x = span_tets f.dims ss from mid in
+      numbered_then ele_line (first + tets_below f.dims ss from) (first + tets_below f.dims ss mid) (again x) (again (span_tets f.dims ss mid to)) (again (span_tets f.dims ss from to))
+      (behind first _ _ _ (counts_then from mid h ∙ ap (λ n. tets_below f.dims ss from + n) (sym (length-map x (renumbered first)))))
+      (ap again (tets_then from mid to h k) ∙ map-append (renumbered first) x (span_tets f.dims ss mid to))
 
   angles_then : (from mid to : ℕ) → from ≤ mid → mid ≤ to → span_angles f ss from mid ++ span_angles f ss mid to ≡ span_angles f ss from to
   unfolding span_angles
@@ -75,13 +87,13 @@ module _ (f : Field) (ss : List State) where
   unfolding span_pieces
   no_tets = refl
 
-  all_nodes : (step : ℕ) → span_node_lines step f ss 0 (layers f.dims) ≡ node_lines step 0 (mesh_of f ss).places
-  unfolding span_node_lines mesh_of
-  all_nodes step = λ i. node_lines step (no_nodes i) (map (node_place f ss) (all_keys f.dims ss i))
+  all_nodes : (frame : Frame) (first : ℕ) → span_node_lines frame first f ss 0 (layers f.dims) ≡ node_lines frame first (nodes_of f ss)
+  unfolding span_node_lines nodes_of
+  all_nodes frame first = λ i. node_lines frame (none_behind first _ no_nodes i) (map (node_of_key f ss) (all_keys f.dims ss i))
 
-  all_tets : span_tet_lines f.dims ss 0 (layers f.dims) ≡ ele_lines 0 (mesh_of f ss).tets
+  all_tets : (first : ℕ) → span_tet_lines first f.dims ss 0 (layers f.dims) ≡ ele_lines first (map (renumbered first) (mesh_of f ss).tets)
   unfolding span_tet_lines mesh_of
-  all_tets = λ i. ele_lines (no_tets i) (numbered f.dims ss (all_of_pieces f.dims ss i))
+  all_tets first = λ i. ele_lines (none_behind first _ no_tets i) (map (renumbered first) (numbered f.dims ss (all_of_pieces f.dims ss i)))
 
   all_angles : span_angles f ss 0 (layers f.dims) ≡ angles (mesh_of f ss)
   unfolding span_angles angles mesh_of
@@ -97,13 +109,13 @@ module _ (f : Field) (ss : List State) where
   unfolding span_pieces
   no_pieces a = ap (λ n. flat_map (layer_pieces f.dims ss) (range_with_len a n)) (let e : a - a ≡ 0 = omega arith in e)
 
-  no_node_lines : (step a : ℕ) → span_node_lines step f ss a a ≡ []
+  no_node_lines : (frame : Frame) (first a : ℕ) → span_node_lines frame first f ss a a ≡ []
   unfolding span_node_lines
-  no_node_lines step a = ap (λ ks. node_lines step (nodes_below f.dims ss a) (map (node_place f ss) ks)) (no_keys a)
+  no_node_lines frame first a = ap (λ ks. node_lines frame (first + nodes_below f.dims ss a) (map (node_of_key f ss) ks)) (no_keys a)
 
-  no_tet_lines : (a : ℕ) → span_tet_lines f.dims ss a a ≡ []
+  no_tet_lines : (first a : ℕ) → span_tet_lines first f.dims ss a a ≡ []
   unfolding span_tet_lines
-  no_tet_lines a = ap (λ ps. ele_lines (tets_below f.dims ss a) (numbered f.dims ss ps)) (no_pieces a)
+  no_tet_lines first a = ap (λ ps. ele_lines (first + tets_below f.dims ss a) (map (renumbered first) (numbered f.dims ss ps))) (no_pieces a)
 
   no_angles : (a : ℕ) → span_angles f ss a a ≡ []
   unfolding span_angles
@@ -194,7 +206,7 @@ spans_are_all f ss = record { nodes = all_nodes f ss; tets = all_tets f ss; angl
 
 pub slabs_join : AllSlabsJoin
 slabs_join f ss t some = record {
-  nodes = λ step. slabs_all f.dims t some (span_node_lines step f ss) (node_lines_then f ss step) (no_node_lines f ss step) ∙ all_nodes f ss step;
-  tets = slabs_all f.dims t some (span_tet_lines f.dims ss) (tet_lines_then f ss) (no_tet_lines f ss) ∙ all_tets f ss;
+  nodes = λ frame first. slabs_all f.dims t some (span_node_lines frame first f ss) (node_lines_then f ss frame first) (no_node_lines f ss frame first) ∙ all_nodes f ss frame first;
+  tets = λ first. slabs_all f.dims t some (span_tet_lines first f.dims ss) (tet_lines_then f ss first) (no_tet_lines f ss first) ∙ all_tets f ss first;
   angles = slabs_all f.dims t some (span_angles f ss) (angles_then f ss) (no_angles f ss) ∙ all_angles f ss;
 }

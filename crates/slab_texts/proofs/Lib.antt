@@ -1,4 +1,5 @@
 pub mod Adding
+pub mod NodeLines
 pub mod Spans
 pub mod Numbers
 pub mod Places

@@ -31,7 +31,7 @@ same_corners : (n : Nodes) (a b : List Place) → AreInRow a n.first n.places.it
 same_corners n a b r s [] m = refl
 same_corners n a b r s (x ∷ xs) m =
     let here = All-head (IsAmong n) x xs m in
-    λ i. (r.place x here.0 here.1 ∙ sym (s.place x here.0 here.1)) i ∷ same_corners n a b r s xs (All-tail (IsAmong n) x xs m) i
+    λ i. (r.place x here.low here.high ∙ sym (s.place x here.low here.high)) i ∷ same_corners n a b r s xs (All-tail (IsAmong n) x xs m) i
 
 pub measured_here : (n : Nodes) (tets : List (List ℕ)) → All (AreAmong n) tets → AreMeasuredIn n tets → (all : List Place) → AreInRow all n.first n.places.items → All (IsMeasured all) tets
 measured_here n tets among h all row = λ k d lt. subst Spans (same_corners n h.all all h.row row (get_or tets k d) (among k d lt)) (h.measured k d lt)

@@ -53,7 +53,9 @@ module _ (d : Dims) (ss : List State) (n : Nodes) (h : HasNodes d ss n) (v : Ver
       All-map (IsAmong n) (number_of (node_keys d ss)) (get_or (tet_pieces d ss tet) i [])
       (λ k z kt.
       (let w = all k z kt in
-      among (number_of (node_keys d ss) (get_or (get_or (tet_pieces d ss tet) i []) k z)) _ _ _ _ h.first h.count w.low w.high))
+      let r = among (number_of (node_keys d ss) (get_or (get_or (tet_pieces d ss tet) i []) k z)) _ _ _ _ h.first h.count w.low w.high in
+      let few = h.few in
+      record { low = r.0; high = r.1; small = (let q = r.1 in omega arith) }))
     where
       among : (x f g p q : ℕ) → f ≡ g → p ≡ q → g ≤ x → x < g + q → (f ≤ x) × (x < f + p)
       among x f g p q e u lo hi = (omega arith, omega arith)

@@ -70,14 +70,3 @@ few_nodes d ss a b is le within =
   where
     bound : (k x y z v : ℕ) → k ≡ x + (y + z) → k ≤ 8 * v → v ≤ 2 ^ 27 → x + y < 2 ^ 31
     bound k x y z v e f g = omega arith
-
--- what holds of all places holds of those
-pub part_holds : (P : Place → Type 0) (f : Field) (ss : List State) (a b : ℕ) (places : List Place) → a ≤ b → b ≤ length (vertices f.dims) → places ≡ map (node_place f ss) (keys_of_ids f.dims ss a (b - a)) → All P (mesh_of f ss).places → All P places
-unfolding mesh_of
-part_holds P f ss a b places le within e h =
-    let g = node_place f ss in
-    let x = filter (occurs (all_pieces f.dims ss)) (range_with_len 0 (8 * a)) in
-    let y = keys_of_ids f.dims ss a (b - a) in
-    let z = filter (occurs (all_pieces f.dims ss)) (range_with_len (8 * b) (8 * (length (vertices f.dims) - b))) in
-    let all = ap (map g) (keys_split f.dims ss a b le within) ∙ map-append g x (y ++ z) ∙ ap (λ t. map g x ++ t) (map-append g y z) in
-    subst (All P) (sym e) (all_left P (map g y) (map g z) (all_right P (map g x) (map g y ++ map g z) (subst (All P) all h)))

@@ -1,4 +1,5 @@
 pub mod Spans
 pub mod Nodes
+pub mod NodeLines
 pub mod Texts
 pub mod Laws

@@ -1,5 +1,5 @@
 -- The nodes of the vertices of some ids, numbered and placed.
-use Rattle.std.specs.Prelude.{◌≡◌, ℕ, ◌+◌, ◌-◌, ◌<◌, ◌≤◌, List, flat_map, length, map}
+use Rattle.std.specs.Prelude.{◌≡◌, ℕ, ◌+◌, ◌-◌, ◌^◌, ◌<◌, ◌≤◌, List, flat_map, length, map}
 use Rattle.definitions.specs.declared.Dims.{Dims}
 use Rattle.definitions.specs.declared.Place.{Place}
 use Rattle.definitions.specs.declared.State.{State}
@@ -22,6 +22,7 @@ pub record HasNodes (d : Dims) (ss : List State) (n : Nodes) : Type 0 where
   pub numbers : NumbersIds d ss n.start n.end n.starts
   pub count : length n.places.items ≡ length (keys_of_ids d ss n.start (n.end - n.start))
   pub first : n.first ≡ nodes_before d ss n.start
+  pub few : n.first + length n.places.items < 2 ^ 31
 
 -- and where they stand
 abbrev pub HasPlaces : Field → List State → Nodes → Type 0

@@ -1,5 +1,5 @@
 -- Lines of tetrahedra with the extremes of their angles.
-use Rattle.std.specs.Prelude.{◌≡◌, ℕ, ◌+◌, Bool, if◌then◌else◌, List, [], ◌++◌, All, flat_map, length, pos, ◌<ℤ◌, ◌<◌, ◌≤◌}
+use Rattle.std.specs.Prelude.{◌≡◌, ℕ, ◌+◌, Bool, if◌then◌else◌, List, [], ◌++◌, All, ◌^◌, flat_map, map, length, pos, ◌<ℤ◌, ◌<◌, ◌≤◌}
 use Rattle.std.specs.List.{enumerate_from}
 use Rattle.definitions.specs.declared.Place.{Place}
 use Rattle.definitions.specs.declared.Extreme.{Extreme}
@@ -8,7 +8,7 @@ use Rattle.definitions.specs.Soundness.{corner_places}
 use Rattle.definitions.specs.Vectors.{det, place_at}
 use Rattle.dihedral.specs.declared.Seven.{Seven}
 use Rattle.determinants.specs.Bounds.{AreNear}
-use Rattle.mesh_texts.specs.Lines.{ele_lines}
+use Rattle.mesh_texts.specs.Lines.{ele_lines, renumbered}
 use Rattle.vertex_numbers.specs.declared.Later.{Later}
 use Rattle.slab_texts.specs.declared.lines.TetLines.{TetLines}
 use Rattle.slab_texts.specs.declared.nodes.Nodes.{Nodes}
@@ -22,14 +22,15 @@ pub record Spans (tet : List Place) : Type 0 where
 abbrev pub IsMeasured : List Place → List ℕ → Type 0
 IsMeasured places tet = Spans (corner_places places tet)
 
--- the lines of tetrahedra, where lines are written
-abbrev pub lines_if : Bool → ℕ → List (List ℕ) → List ℕ
-lines_if writes from tets = if writes then ele_lines from tets else []
+-- the lines of tetrahedra, numbered from `first`, where lines are written
+abbrev pub lines_if : Bool → ℕ → ℕ → List (List ℕ) → List ℕ
+lines_if writes first from tets = if writes then ele_lines (first + from) (map (renumbered first) tets) else []
 
 -- some tetrahedra more, of nodes at these places
 pub record AddsTets (places : List Place) (old : TetLines) (tets : List (List ℕ)) (new : TetLines) : Type 0 where
-  pub text : new.text.items ≡ old.text.items ++ lines_if old.writes old.number tets
+  pub text : new.text.items ≡ old.text.items ++ lines_if old.writes old.numbering old.number tets
   pub writes : new.writes ≡ old.writes
+  pub numbering : new.numbering ≡ old.numbering
   pub number : new.number ≡ old.number + length tets
   pub angles : (xs : List Extreme) → old.angles ≡ extremes_of xs → new.angles ≡ extremes_of (xs ++ flat_map (angles_of places) (enumerate_from old.number tets))
 
@@ -43,9 +44,11 @@ pub record AreMeasuredIn (nodes : Nodes) (tets : List (List ℕ)) : Type 0 where
   pub row : AreInRow all nodes.first nodes.places.items
   pub measured : All (IsMeasured all) tets
 
--- a number of one of these nodes
-abbrev pub IsAmong : Nodes → ℕ → Type 0
-IsAmong nodes n = (nodes.first ≤ n) × (n < nodes.first + length nodes.places.items)
+-- a number of one of these nodes, below 2^31
+pub record IsAmong (nodes : Nodes) (n : ℕ) : Type 0 where
+  pub low : nodes.first ≤ n
+  pub high : n < nodes.first + length nodes.places.items
+  pub small : n < 2 ^ 31
 
 abbrev pub AreAmong : Nodes → List ℕ → Type 0
 AreAmong nodes numbers = All (IsAmong nodes) numbers

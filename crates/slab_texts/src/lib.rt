@@ -4,6 +4,7 @@
 
 mod laws;
 mod lines;
+mod node_lines;
 mod nodes;
 mod tetrahedra;
 mod text;

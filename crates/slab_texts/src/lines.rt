@@ -4,6 +4,7 @@ ghost use Rattle.definitions.specs.Soundness.{corner_places};
 ghost use Rattle.definitions.specs.Vectors.{place_at};
 ghost use Rattle.slab_texts.specs.Nodes.{AreInRow};
 ghost use Rattle.dihedral.specs.Shapes.{Covers};
+ghost use Rattle.mesh_texts.specs.Lines.{renumbered as renumbered_lem};
 ghost use Rattle.mesh_lists.specs.Parts.{whole_tets};
 ghost use Rattle.slab_texts.specs.Texts.{Adds, AreAmong, AreMeasuredIn, IsAmong, later_places, lines_if};
 
@@ -31,12 +32,13 @@ impl Tools {
     }
 }
 
-/// Lines of tetrahedra, whether they are written or only counted, the number of the next one, and the extremes of the
-/// angles so far.
+/// Lines of tetrahedra, whether they are written or only counted, the number from which nodes and tetrahedra are
+/// numbered in them, the number of the next one from 0, and the extremes of the angles so far.
 #[derive(Drop)]
 pub struct TetLines {
     pub text: Vec<u8>,
     pub writes: bool,
+    pub numbering: u8,
     pub number: u64,
     pub angles: Remembering,
 }
@@ -63,15 +65,31 @@ fn places_of(nodes: &Nodes, numbers: [u32; 4]) -> [Place; 4]
     ]
 }
 
+// The numbers of nodes where these are numbered from `first` on.
+#[inline(always)]
+fn renumbered(numbers: [u32; 4], first: u32) -> [u32; 4]
+    requires first { first < 2 ^ 8 }
+    requires small { All (λ n. n < 2 ^ 31) numbers }
+    ensures { result ≡ renumbered_lem first numbers }
+{
+    let [a, b, c, d] = numbers;
+    [first + a, first + b, first + c, first + d]
+}
+
 // The line of the next tetrahedron, where lines are written.
 fn push_line(numbers: [u32; 4], pen: &mut Pen, out: &mut TetLines) -> Result<(), NoMemory>
-    ensures text { OnOk result (out.new.text.items ≡ out.old.text.items ++ lines_if out.old.writes out.old.number (numbers ∷ [])) }
+    requires small { All (λ n. n < 2 ^ 31) numbers }
+    requires room { out.old.number < 2 ^ 63 }
+    ensures text { OnOk result (out.new.text.items ≡ out.old.text.items ++ lines_if out.old.writes out.old.numbering out.old.number (numbers ∷ [])) }
     ensures writes { out.new.writes ≡ out.old.writes }
+    ensures numbering { out.new.numbering ≡ out.old.numbering }
     ensures number { out.new.number ≡ out.old.number }
     ensures angles { out.new.angles ≡ out.old.angles }
 {
     if out.writes {
-        pen.ele_line(&mut out.text, out.number, numbers)
+        let first = out.numbering;
+        let number = u64::from(first) + out.number;
+        pen.ele_line(&mut out.text, number, renumbered(numbers, u32::from(first)))
     } else {
         Ok(())
     }
@@ -86,7 +104,7 @@ fn push_tet(
 ) -> Result<(), NoMemory>
     requires among { All (IsAmong nodes.now) numbers }
     requires measured { AreMeasuredIn nodes.now (numbers ∷ []) }
-    requires room { out.old.number + 1 < 2 ^ 64 }
+    requires room { out.old.number + 1 < 2 ^ 63 }
     ensures adds { OnOk result (Adds nodes.now out.old (numbers ∷ []) out.new) }
     ensures few { out.new.number ≤ out.old.number + 1 }
 {
@@ -104,8 +122,9 @@ fn push_known_tet(
     pen: &mut Pen,
     out: &mut TetLines,
 ) -> Result<(), NoMemory>
+    requires among { All (IsAmong _nodes.now) numbers }
     requires known { (all : List Place) → AreInRow all _nodes.now.first _nodes.now.places.items → Covers out.old.angles (corner_places all numbers) }
-    requires room { out.old.number + 1 < 2 ^ 64 }
+    requires room { out.old.number + 1 < 2 ^ 63 }
     ensures adds { OnOk result (Adds _nodes.now out.old (numbers ∷ []) out.new) }
     ensures few { out.new.number ≤ out.old.number + 1 }
     ensures angles { out.new.angles ≡ out.old.angles }
@@ -122,8 +141,9 @@ fn push_known(
     pen: &mut Pen,
     out: &mut TetLines,
 ) -> Result<(), NoMemory>
+    requires among { All (AreAmong nodes.now) tets.now }
     requires known { (all : List Place) → AreInRow all nodes.now.first nodes.now.places.items → All (Covers out.old.angles) (map (corner_places all) tets.now) }
-    requires room { out.old.number + length tets.now < 2 ^ 64 }
+    requires room { out.old.number + length tets.now < 2 ^ 63 }
     ensures adds { OnOk result (Adds nodes.now out.old tets.now out.new) }
     ensures few { out.new.number ≤ out.old.number + length tets.now }
 {
@@ -160,7 +180,7 @@ pub fn push_all(
 ) -> Result<(), NoMemory>
     requires among { All (AreAmong nodes.now) tets.now }
     requires measured { AreMeasuredIn nodes.now tets.now }
-    requires room { out.old.number + length tets.now < 2 ^ 64 }
+    requires room { out.old.number + length tets.now < 2 ^ 63 }
     ensures adds { OnOk result (Adds nodes.now out.old tets.now out.new) }
     ensures few { out.new.number ≤ out.old.number + length tets.now }
 {
@@ -181,7 +201,7 @@ fn push_new(
 ) -> Result<(), NoMemory>
     requires among { All (AreAmong nodes.now) six.now }
     requires measured { AreMeasuredIn nodes.now six.now }
-    requires room { out.old.number + length six.now < 2 ^ 64 }
+    requires room { out.old.number + length six.now < 2 ^ 63 }
     ensures adds { OnOk result (Adds nodes.now out.old six.now out.new) }
     ensures few { out.new.number ≤ out.old.number + length six.now }
 {
@@ -199,7 +219,7 @@ pub fn push_whole(
 ) -> Result<(), NoMemory>
     requires among { All (AreAmong nodes.now) (whole_tets whole.now.own whole.now.later) }
     requires measured { AreMeasuredIn nodes.now (whole_tets whole.now.own whole.now.later) }
-    requires room { out.old.number + 6 < 2 ^ 64 }
+    requires room { out.old.number + 6 < 2 ^ 63 }
     ensures adds { OnOk result (Adds nodes.now out.old (whole_tets whole.now.own whole.now.later) out.new) }
     ensures few { out.new.number ≤ out.old.number + 6 }
 {

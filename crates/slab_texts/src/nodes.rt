@@ -24,8 +24,8 @@ pub struct Nodes {
     pub first: u32,
 }
 
-// How many nodes the layers from `from` on and before `to` have.
-fn count(offsets: &Offsets, from: u32, to: u32) -> u32
+/// How many nodes the layers from `from` on and before `to` have.
+pub fn count(offsets: &Offsets, from: u32, to: u32) -> u32
     requires some { from ≤ to }
     requires within { to ≤ length offsets.now }
 {
@@ -53,7 +53,6 @@ impl Nodes {
         ensures end { IfOk result (λ n. n.end ≡ layer_start field.now.dims to) }
         ensures nodes { IfOk result (HasNodes field.now.dims states.now.states) }
         ensures places { IfOk result (HasPlaces field.now states.now.states) }
-        ensures few { IfOk result (λ n. n.first + length n.places.items < 2 ^ 31) }
     {
         let dims = states.dims();
         let start = ids_below(dims, from);

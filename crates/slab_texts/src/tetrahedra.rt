@@ -25,7 +25,7 @@ fn push_pieces(
     requires domain { InDomain states.now.dims v }
     requires hold { HoldLayers states.now.dims v.h nodes.now.start nodes.now.end }
     requires measured { AreMeasuredIn nodes.now (numbered_from states.now.dims states.now.states v) }
-    requires room { out.old.number + 18 < 2 ^ 64 }
+    requires room { out.old.number + 18 < 2 ^ 63 }
     ensures adds { OnOk result (Adds nodes.now out.old (numbered_from states.now.dims states.now.states v) out.new) }
     ensures few { out.new.number ≤ out.old.number + 18 }
 {
@@ -51,7 +51,7 @@ fn push_from(
     requires small { id < 2 ^ 27 }
     requires low { nodes.now.start ≤ id }
     requires high { id < nodes.now.end }
-    requires room { out.old.number + 18 < 2 ^ 64 }
+    requires room { out.old.number + 18 < 2 ^ 63 }
     ensures adds { OnOk result (Adds nodes.now out.old (numbered_from states.now.dims states.now.states v) out.new) }
     ensures few { out.new.number ≤ out.old.number + 18 }
 {

@@ -1,2 +1,3 @@
 pub mod Printing
 pub mod Surveys
+pub mod Few

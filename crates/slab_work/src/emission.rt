@@ -1,6 +1,7 @@
 ghost use Rattle.std.specs.Prelude.{◌≡◌, ◌-◌, ◌*◌, ◌<◌, ◌≤◌, IfOk, length, min};
 ghost use Rattle.command_line.specs.Grammar.{IsPlan};
 ghost use Rattle.definitions.specs.Layout.{slabs};
+ghost use Rattle.formats.specs.Frames.{IsFrame};
 ghost use Rattle.bcc_lattice.specs.Layouts.{IsLayout};
 ghost use Rattle.slab_emit.specs.Parts.{AreParts};
 ghost use Rattle.slab_work.specs.Rounds.{rounds_of};
@@ -10,7 +11,7 @@ use crate::source_of;
 use bcc_lattice::Layout;
 use command_line::Plan;
 use slab_emit::{Crew, Lines, Part, emit};
-use st_base::{Gate, NoMemory};
+use st_base::{Frame, Gate, NoMemory};
 use std::alloc::Global;
 use std::thread::Threads;
 use survey::Survey;
@@ -26,21 +27,23 @@ pub fn rounds(layout: &Layout, plan: Plan) -> u32
 }
 
 /// The lines of the nodes of the slabs from `first` on, four slabs for each worker of the plan or as many as there are,
-/// in the order of slabs. Each place is in steps of `step` raw voxels.
+/// in the order of slabs. They are numbered from `numbering`, which is 0 or 1.
 pub fn emit_nodes<G: Gate + Sync, R: Threads + Sync>(
     rt: &R,
     alloc: Global,
     survey: &Survey,
-    step: u32,
+    frame: Frame,
+    numbering: u32,
     plan: Plan,
     gate: &G,
     first: u32,
 ) -> Result<Vec<Part>, NoMemory>
     requires first { first < slabs survey.now.subject.field.dims survey.now.layout.slab }
     requires plan { IsPlan plan }
-    requires step { step ≤ 64 }
-    requires sizes { AreKept step survey.now.subject.field.dims }
-    ensures parts { IfOk result (λ ps. AreParts (Lines.Nodes step) (surveyed survey.now) first ps.items) }
+    requires frame { IsFrame frame }
+    requires numbering { numbering ≤ 1 }
+    requires sizes { AreKept frame.step survey.now.subject.field.dims }
+    ensures parts { IfOk result (λ ps. AreParts (Lines.Nodes frame numbering) (surveyed survey.now) first ps.items) }
     ensures len { IfOk result (λ ps. length ps.items ≡ min (4 * plan.workers) (slabs survey.now.subject.field.dims survey.now.layout.slab - first)) }
 {
     let source = source_of(survey);
@@ -49,7 +52,7 @@ pub fn emit_nodes<G: Gate + Sync, R: Threads + Sync>(
         rt,
         alloc,
         &source,
-        Lines::Nodes { step },
+        Lines::Nodes { frame, numbering },
         &mut crew,
         gate,
         first,
@@ -61,17 +64,27 @@ pub fn emit_tets<G: Gate + Sync, R: Threads + Sync>(
     rt: &R,
     alloc: Global,
     survey: &Survey,
-    _step: u32,
+    _frame: Frame,
+    numbering: u32,
     plan: Plan,
     gate: &G,
     first: u32,
 ) -> Result<Vec<Part>, NoMemory>
     requires first { first < slabs survey.now.subject.field.dims survey.now.layout.slab }
     requires plan { IsPlan plan }
-    ensures parts { IfOk result (λ ps. AreParts Lines.Tets (surveyed survey.now) first ps.items) }
+    requires numbering { numbering ≤ 1 }
+    ensures parts { IfOk result (λ ps. AreParts (Lines.Tets numbering) (surveyed survey.now) first ps.items) }
     ensures len { IfOk result (λ ps. length ps.items ≡ min (4 * plan.workers) (slabs survey.now.subject.field.dims survey.now.layout.slab - first)) }
 {
     let source = source_of(survey);
     let mut crew = Crew::new(alloc, plan.workers);
-    emit(rt, alloc, &source, Lines::Tets, &mut crew, gate, first)
+    emit(
+        rt,
+        alloc,
+        &source,
+        Lines::Tets { numbering },
+        &mut crew,
+        gate,
+        first,
+    )
 }

@@ -3,15 +3,19 @@
 //!
 //! ```rust
 //! let (survey, ledgers) = survey(rt, alloc, &field, shares, plan, &OpenGate, ledgers)?;
-//! for part in emit_nodes(rt, alloc, &survey, step, plan, &OpenGate, 0)?.iter() { .. }
+//! for part in emit_nodes(rt, alloc, &survey, frame, 0, plan, &OpenGate, 0)?.iter() { .. }
 //! ```
 #![tactic(auto)]
 
 mod emission;
+mod laws;
+mod list;
 mod source;
 
 pub use command_line::Plan;
 pub use emission::{emit_nodes, emit_tets, rounds};
+pub use laws::tets_are_few;
+pub use list::list_tets;
 pub use mesh_lists::{Mesh, build_mesh, extremes};
 pub use slab_emit::{Part, Source};
 pub use slab_survey::{Worker, survey_slab};

@@ -3,7 +3,7 @@ use Rattle.std.specs.Prelude.{◌≡◌, ◌≢◌, ℕ, ◌≤◌, List, [], �
 use Rattle.std.specs.Io.KnownBytes.{Appends}
 use Rattle.std.specs.Option.{option_map}
 use Rattle.formats.specs.declared.Port.{Port}
-use Rattle.formats.specs.declared.Port.TheVariants.{Node, Ele, Report, Trouble}
+use Rattle.formats.specs.declared.Port.TheVariants.{Node, Ele, Report, Trouble, Face, Neigh}
 
 -- the input: whether one is open, the bytes that are left of it, and the count of its faults
 pub record InputState : Type 0 where
@@ -36,6 +36,8 @@ IsFile Node = ⊤
 IsFile Ele = ⊤
 IsFile Report = ⊥
 IsFile Trouble = ⊥
+IsFile Face = ⊤
+IsFile Neigh = ⊤
 
 -- a port was opened with a name: a told text is empty, and a told name is this one
 pub record BeginsAs (port : PortState) (name : List ℕ) : Type 0 where
@@ -67,6 +69,8 @@ pub record IsStart (input : InputState) (ports : Port → PortState) (tried : Op
   pub ele : IsFresh false (ports Ele)
   pub report : IsFresh true (ports Report)
   pub trouble : IsFresh true (ports Trouble)
+  pub face : IsFresh false (ports Face)
+  pub neigh : IsFresh false (ports Neigh)
   pub none_tried : IfSome tried (λ names. names ≡ [])
 
 -- a told text has grown by some front of the bytes

@@ -11,7 +11,7 @@ use formats::Port;
 #[derive(Clone, Copy, Debug, PartialEq, Eq)]
 pub struct Failed;
 
-/// The outside: an input, four ports, and a count of faults for each of these five.
+/// The outside: an input, six ports, and a count of faults for each of these seven.
 ///
 /// A count never falls, and stands still at 2^64 - 1. A call answers [`Failed`] only where the count
 /// of the input, or of the port that it is on, rose in it; it leaves all other counts as they were.
@@ -51,7 +51,7 @@ pub trait Desk {
         ensures apart { KeepsAllButInput ports tried held self.old self.new }
         ensures cause { HasCause (input self.old).faults (input self.new).faults result };
 
-    /// Opens the port Node or Ele with an empty text. Failed leaves it as it was.
+    /// Opens the port Node, Ele, Face or Neigh with an empty text. Failed leaves it as it was.
     fn open_output(&mut self, port: Port, name: &[u8]) -> Result<(), Failed>
         requires may_open { IsFile port }
         requires closed { (ports self.old port).is_open ≡ false }

@@ -1,17 +1,11 @@
-ghost use Rattle.std.specs.Prelude.{◌≡◌, ◌<◌, length, slice_index_or, pos};
+ghost use Rattle.std.specs.Prelude.{◌≡◌, ◌<◌};
 ghost use Rattle.definitions.specs.Values.{number_at};
 ghost use Rattle.formats.specs.Volumes.{IsVolume};
 
+use crate::samples::Samples;
 use definitions::Dims;
 use formats::Kind;
 use std::marker::Model;
-
-fn number(numbers: &[i64], n: usize) -> i64
-    requires { n < length numbers.now }
-    ensures { result ≡ slice_index_or numbers.now n (pos 0) }
-{
-    numbers[n]
-}
 
 /// An image: the kept sizes, the step with which they were kept, the type of the samples, and the
 /// samples with x fastest, then y, then z.
@@ -22,8 +16,7 @@ fn number(numbers: &[i64], n: usize) -> i64
 pub struct Volume {
     dims: Dims,
     step: u32,
-    kind: Kind,
-    samples: Vec<i64>,
+    samples: Samples,
 }
 
 impl Model for Volume {
@@ -31,9 +24,9 @@ impl Model for Volume {
 
     ghost Value = { VolumeValue };
 
-    ghost view = { λ v. record { dims = v.dims; step = v.step; kind = v.kind; samples = v.samples.items } };
+    ghost view = { λ v. record { dims = v.dims; step = v.step; kind = v.samples.kind; samples = v.samples.numbers } };
 
-    ghost invariant = { λ v. IsVolume (record { dims = v.dims; step = v.step; kind = v.kind; samples = v.samples.items }) };
+    ghost invariant = { λ v. IsVolume (record { dims = v.dims; step = v.step; kind = v.samples.kind; samples = v.samples.numbers }) };
 }
 
 impl Volume {
@@ -41,17 +34,16 @@ impl Volume {
     ///
     /// ```
     /// let dims = Dims { nx: 2, ny: 1, nz: 1 };
-    /// let volume = Volume::new(dims, 1, Kind::Uchar, samples);
+    /// let volume = Volume::new(dims, 1, samples);
     /// let second = volume.sample(1, 0, 0);
     /// ```
-    pub fn new(dims: Dims, step: u32, kind: Kind, samples: Vec<i64>) -> Volume
-        requires { IsVolume (record { dims = dims; step = step; kind = kind; samples = samples.items }) }
-        ensures { result ≡ record { dims = dims; step = step; kind = kind; samples = samples.items } }
+    pub fn new(dims: Dims, step: u32, samples: Samples) -> Volume
+        requires { IsVolume (record { dims = dims; step = step; kind = samples.kind; samples = samples.numbers }) }
+        ensures { result ≡ record { dims = dims; step = step; kind = samples.kind; samples = samples.numbers } }
     {
         Volume {
             dims,
             step,
-            kind,
             samples,
         }
     }
@@ -74,15 +66,25 @@ impl Volume {
     pub fn kind(&self) -> Kind
         ensures { result ≡ self.now.kind }
     {
-        self.kind
+        self.samples.kind()
     }
 
     /// All samples, x fastest.
-    pub fn samples(&self) -> &[i64]
-        ensures value { result.now ≡ self.now.samples }
+    pub fn samples(&self) -> &Samples
+        ensures kind { result.now.kind ≡ self.now.kind }
+        ensures numbers { result.now.numbers ≡ self.now.samples }
         ensures volume { IsVolume self.now }
     {
-        self.samples.as_slice()
+        &self.samples
+    }
+
+    /// The samples alone, in the memory that the volume had.
+    pub fn into_samples(self) -> Samples
+        ensures kind { result.kind ≡ self.kind }
+        ensures numbers { result.numbers ≡ self.samples }
+        ensures volume { IsVolume self }
+    {
+        self.samples
     }
 
     /// The sample at a place in the image.
@@ -93,6 +95,6 @@ impl Volume {
         ensures { result ≡ number_at self.now.dims self.now.samples i j k }
     {
         let row = k as usize * self.dims.ny as usize + j as usize;
-        number(&self.samples, row * self.dims.nx as usize + i as usize)
+        self.samples.get(row * self.dims.nx as usize + i as usize)
     }
 }

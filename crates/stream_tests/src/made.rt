@@ -1,44 +1,19 @@
 //! What the tests stream: surveys, and desks in memory.
-ghost use Rattle.std.specs.Prelude.{◌≡◌, IfSome, false};
+ghost use Rattle.std.specs.Prelude.{◌≡◌, ◌≤◌, IfSome, false};
 ghost use Rattle.command_line.specs.Grammar.{IsPlan};
-ghost use Rattle.st_base.specs.Desk.{IsFile};
 ghost use Rattle.slab_work.specs.Surveyed.{AreKept};
+ghost use Rattle.stream_write.specs.Streams.{IsMeshFile};
 
 use bcc_lattice::vertex_count;
 use dihedral::Extremes;
 use node_ele_write::{PutFault, put_all};
-use phantom::phantom;
-use samples::{Field, Level};
+use samples::Field;
 use slab_work::{Plan, Survey, survey};
 use snap_rule::Shares;
-use st_base::{Desk, Dims, Gate, Kind, OpenGate, Port, Tally, Volume};
+use st_base::{Desk, Frame, Gate, OpenGate, Port, Tally};
 use std::alloc::Global;
 use std::thread::Threads;
 use stream_write::stream_slabs;
-
-/// One sample of 1, at a level of a half.
-pub fn one_sample(alloc: Global) -> Option<Field> {
-    let Ok(samples) = Vec::from_slice(alloc, &[1]) else {
-        return None;
-    };
-    let dims = Dims {
-        nx: 1,
-        ny: 1,
-        nz: 1,
-    };
-    let volume = Volume::new(dims, 1, Kind::Short, samples);
-    let level = Level::new(1)?;
-    Field::new(alloc, &volume, level, false).ok()
-}
-
-/// A phantom with 33 layers of vertices.
-pub fn phantom_field(alloc: Global) -> Option<Field> {
-    let Ok(volume) = phantom(alloc, 15, 7) else {
-        return None;
-    };
-    let level = Level::new(399)?;
-    Field::new(alloc, &volume, level, false).ok()
-}
 
 /// So many workers, and slabs of two layers.
 pub fn plan_of(workers: u32) -> Option<Plan>
@@ -81,13 +56,15 @@ pub fn stream<D: Desk + Send, G: Gate + Sync, R: Threads + Sync>(
     rt: &R,
     alloc: Global,
     survey: &Survey,
+    numbering: u32,
     plan: Plan,
     gate: &G,
     port: Port,
     head: &[u8],
     desk: &mut D,
 ) -> Result<Option<Extremes>, PutFault>
-    requires is_file { IsFile port }
+    requires mesh_file { IsMeshFile port }
+    requires numbering { numbering ≤ 1 }
     requires closed { (D.ports desk.old port).is_open ≡ false }
     requires plan { IsPlan plan }
     requires sizes { AreKept 1 survey.now.subject.field.dims }
@@ -98,5 +75,9 @@ pub fn stream<D: Desk + Send, G: Gate + Sync, R: Threads + Sync>(
     let Ok(()) = put_all(desk, port, head) else {
         return Err(PutFault::WriteFault);
     };
-    stream_slabs(rt, alloc, survey, 1, plan, gate, port, desk)
+    let frame = Frame {
+        step: 1,
+        world: None,
+    };
+    stream_slabs(rt, alloc, survey, frame, numbering, plan, gate, port, desk)
 }

@@ -1,7 +1,8 @@
 //! The writer writes while the workers work: a gate and a desk each wait for the other.
-use crate::made::{phantom_field, plan_of, stream, survey_of};
+use crate::made::{plan_of, stream, survey_of};
 use desk_mem::MemDesk;
 use slab_work::rounds;
+use small_images::phantom_field;
 use st_base::{Desk, Failed, Gate, OpenGate, Port};
 use std::sync::atomic::{AtomicU64, Ordering};
 use std::test::*;
@@ -81,7 +82,7 @@ impl Desk for Watched<'_> {
 #[test]
 fn a_round_is_written_while_the_next_is_made(rt: HostRuntime) {
     let alloc = rt.alloc();
-    let field = phantom_field(alloc).expect(&rt, "a field");
+    let field = phantom_field(alloc, 15).expect(&rt, "a field");
     let plan = plan_of(2).expect(&rt, "a plan");
     let survey = survey_of(&rt, alloc, &field, plan).expect(&rt, "memory");
     assert_eq!(rt; survey.layout().slabs(), 17);
@@ -91,6 +92,7 @@ fn a_round_is_written_while_the_next_is_made(rt: HostRuntime) {
         &rt,
         alloc,
         &survey,
+        0,
         plan,
         &OpenGate,
         Port::Node,
@@ -110,6 +112,7 @@ fn a_round_is_written_while_the_next_is_made(rt: HostRuntime) {
         &rt,
         alloc,
         &survey,
+        0,
         plan,
         &words,
         Port::Node,

@@ -7,7 +7,7 @@ use Rattle.std.specs.Prelude.{OnOk, OnErr}
 use Rattle.st_base.specs.Causes.{HasCause}
 use Rattle.formats.specs.Faults.{fault_line, trouble_text}
 use Rattle.formats.specs.declared.Status.{Status}
-use Rattle.formats.specs.declared.Status.TheVariants.{Done, BadWords, BadHeader, Unsupported, TooLarge, Truncated, ReadFault, WriteFault, NoMemory}
+use Rattle.formats.specs.declared.Status.TheVariants.{Done, BadWords, BadHeader, Unsupported, TooLarge, Truncated, ReadFault, WriteFault, NoMemory, TooManyTets, BadMesh, NotSound}
 use Rattle.std.specs.declared.result.Result.{Result}
 use Rattle.std.specs.declared.result.Result.TheVariants.{Ok, Err}
 
@@ -38,3 +38,6 @@ trouble_is (Truncated got wanted) not_done = refl
 trouble_is ReadFault not_done = refl
 trouble_is (WriteFault port) not_done = refl
 trouble_is NoMemory not_done = refl
+trouble_is (TooManyTets tets) not_done = refl
+trouble_is (BadMesh file fault) not_done = refl
+trouble_is (NotSound v) not_done = refl

@@ -7,9 +7,9 @@ use Rattle.std.proofs.lemmas.Bool.Decides.{nat_tests}
 use Rattle.definitions.specs.declared.Dims.{Dims}
 use Rattle.formats.specs.declared.Head.{Head}
 use Rattle.formats.specs.declared.Limits.{Limits}
-use Rattle.formats.specs.Volumes.{is_too_large, kept_size, kept_dims, first_limits}
+use Rattle.formats.specs.Volumes.{is_too_large, kept_size, kept_dims, second_limits}
 use Rattle.mha_read.specs.RawSizes.{AreRawSizes}
-use Rattle.stuff.specs.Ends.{AreKept}
+use Rattle.slab_work.specs.Surveyed.{AreKept}
 
 either_false : (a b : Bool) → (a || b) ≡ false → a ≡ false
 either_false true b e = cc
@@ -40,7 +40,7 @@ distributes a b c = omega arith
 kept_axis : (step n : ℕ) → step ≤ 64 → n ≤ 8192 → step * kept_size step n ≤ 8255
 kept_axis step n high le = rw (distributes step (n / step) (min 1 (n % step))) (with_rest step (n / step) (n % step) n high (div-add-mod n step) le)
 
-pub kept_within : (step : ℕ) (limits : Limits) (head : Head) (d : Dims) → step ≤ 64 → limits ≡ first_limits → AreRawSizes head.raw → is_too_large limits head step ≡ false → d ≡ kept_dims head step → AreKept step d
+pub kept_within : (step : ℕ) (limits : Limits) (head : Head) (d : Dims) → step ≤ 64 → limits ≡ second_limits → AreRawSizes head.raw → is_too_large limits head step ≡ false → d ≡ kept_dims head step → AreKept step d
 kept_within step limits head d high l raw small e =
     let none = none_above limits.dimension head.raw (either_false _ _ small) in
     let limit : limits.dimension ≡ 8192 = ap (λ (x : Limits). x.dimension) l in

@@ -1,49 +1,85 @@
 -- How the steps of writing a mesh leave the ports.
-use Rattle.std.proofs.Common.{Bool, ◌≡◌, ◌≢◌, ◌⊎◌, inl, inr, ◌<◌, ℕ, List, [], Option, Some, None, true, false, refl, ap, sym, ◌∙◌, subst, arith}
-use Rattle.std.proofs.lemmas.List.{append-nil}
+use Rattle.std.proofs.Common.{Bool, ◌≡◌, ◌≢◌, ◌⊎◌, inl, inr, ◌<◌, ℕ, zero, suc, List, [], Option, Some, None, true, false, refl, ap, sym, ◌∙◌, subst, arith}
+use Rattle.std.proofs.lemmas.Bool.{cases_lt}
 use Rattle.std.specs.Io.KnownBytes.{Appends}
 use Rattle.formats.specs.declared.Port.{Port}
-use Rattle.formats.specs.declared.Port.TheVariants.{Node, Ele, Report, Trouble}
+use Rattle.formats.specs.declared.Port.TheVariants.{Node, Ele, Report, Trouble, Face, Neigh}
 use Rattle.formats.specs.declared.Status.{Status}
-use Rattle.formats.specs.declared.Status.TheVariants.{Done, BadWords, BadHeader, Unsupported, TooLarge, Truncated, ReadFault, WriteFault, NoMemory}
-use Rattle.st_base.specs.Desk.{PortState, SamePort, AppendsPart}
-use Rattle.stuff.specs.Ports.{Stage, Reading, OpeningNode, OpeningEle, WritingNode, WritingEle, BeforeReport, WritingReport, Finished, EndsAt, Extent, Untouched, Unopened, Empty, Part, Whole, node_extent, ele_extent, report_extent, of_files, IsOpened, HoldsPart, HoldsAll, FileAt, ReportAt, TellsFault, PortsEnd, HasWritten}
+use Rattle.formats.specs.declared.Status.TheVariants.{Done, BadWords, BadHeader, Unsupported, TooLarge, Truncated, ReadFault, WriteFault, NoMemory, TooManyTets, BadMesh, NotSound}
+use Rattle.st_base.specs.Desk.{InputState, IsStart, PortState, SamePort, AppendsPart}
+use Rattle.stuff.specs.Ports.{Stage, Reading, OpeningNode, OpeningEle, WritingNode, WritingEle, BeforeReport, WritingReport, Finished, EndsAt, Extent, Untouched, Unopened, Empty, Part, Whole, node_extent, ele_extent, report_extent, of_files, IsOpened, HoldsPart, HoldsAll, FileAt, ReportAt, TellsFault, HasNoFault, PortsEnd, HasWritten}
 use Rattle.stuff.specs.Ends.{LeavesPorts}
 use Rattle.stuff.specs.Writing.{BothOpen, OneFails, IsWritten, IsBroken, Reports}
 
+-- ports are told apart by their numbers
+abbrev port_number : Port → ℕ
+port_number Node = 0
+port_number Ele = 1
+port_number Report = 2
+port_number Trouble = 3
+port_number Face = 4
+port_number Neigh = 5
+
+abbrev port_at : ℕ → Port
+port_at zero = Node
+port_at (suc zero) = Ele
+port_at (suc (suc zero)) = Report
+port_at (suc (suc (suc zero))) = Trouble
+port_at (suc (suc (suc (suc zero)))) = Face
+port_at n = Neigh
+
+at_number : (p : Port) → port_at (port_number p) ≡ p
+at_number Node = refl
+at_number Ele = refl
+at_number Report = refl
+at_number Trouble = refl
+at_number Face = refl
+at_number Neigh = refl
+
+same_or_other : (p q : Port) → (p ≡ q) ⊎ (p ≢ q)
+same_or_other p q = elim (cases_lt (port_number p) (port_number q)) [
+  | inl lt ↦ inr (λ e. absurd (omega (arith, lt, ap port_number e)))
+  | inr ge ↦ elim (cases_lt (port_number q) (port_number p)) [
+    | inl gt ↦ inr (λ e. absurd (omega (arith, gt, ap port_number e)))
+    | inr le ↦ inl (sym (at_number p) ∙ ap port_at (let e : port_number p ≡ port_number q = omega (arith, ge, le) in e) ∙ at_number q)
+  ]
+]
+
+fault_port : (p q : Port) → WriteFault p ≡ WriteFault q → q ≡ p
+fault_port p q e = cc
+
 module _ {D : Type 0} (ports : D → Port → PortState) where
-  -- no port but Trouble has a fault
-  pub record NoFault (d : D) : Type 0 where
-    pub node : (ports d Node).faults ≡ 0
-    pub ele : (ports d Ele).faults ≡ 0
-    pub report : (ports d Report).faults ≡ 0
+  -- a desk on which nothing was done has none
+  pub start_none : (input : InputState) (tried : Option (List (List ℕ))) (d : D) → IsStart input (ports d) tried → HasNoFault (ports d)
+  start_none input tried d start Node t = start.node.faults
+  start_none input tried d start Ele t = start.ele.faults
+  start_none input tried d start Report t = start.report.faults
+  start_none input tried d start Trouble t = absurd (t refl)
+  start_none input tried d start Face t = start.face.faults
+  start_none input tried d start Neigh t = start.neigh.faults
 
   none_is : (status : Status) (p : Port) (d : D) → status ≢ WriteFault p → (ports d p).faults ≡ 0 → TellsFault status p (ports d p)
   none_is status p d ne z = (λ e. absurd (ne e), λ lt. absurd (omega (arith, lt, z)))
 
-  pub tells_none : (status : Status) (d : D) → ((p : Port) → status ≢ WriteFault p) → NoFault d → (p : Port) → p ≢ Trouble → TellsFault status p (ports d p)
-  tells_none status d ne z Node t = none_is status Node d (ne Node) z.node
-  tells_none status d ne z Ele t = none_is status Ele d (ne Ele) z.ele
-  tells_none status d ne z Report t = none_is status Report d (ne Report) z.report
-  tells_none status d ne z Trouble t = absurd (t refl)
+  pub tells_none : (status : Status) (d : D) → ((p : Port) → status ≢ WriteFault p) → HasNoFault (ports d) → (p : Port) → p ≢ Trouble → TellsFault status p (ports d p)
+  tells_none status d ne z p t = none_is status p d (ne p) (z p t)
 
-  tells_node : (d : D) → 0 < (ports d Node).faults → (ports d Ele).faults ≡ 0 → (ports d Report).faults ≡ 0 → (p : Port) → p ≢ Trouble → TellsFault (WriteFault Node) p (ports d p)
-  tells_node d lt e r Node t = (λ q. lt, λ q. refl)
-  tells_node d lt e r Ele t = none_is (WriteFault Node) Ele d (λ q. cc) e
-  tells_node d lt e r Report t = none_is (WriteFault Node) Report d (λ q. cc) r
-  tells_node d lt e r Trouble t = absurd (t refl)
+  -- one port has a fault
+  tells : (port : Port) (d : D) → 0 < (ports d port).faults → ((p : Port) → p ≢ Trouble → p ≢ port → (ports d p).faults ≡ 0) → (p : Port) → p ≢ Trouble → TellsFault (WriteFault port) p (ports d p)
+  tells port d lt none p t = elim (same_or_other p port) [
+    | inl e ↦ subst (λ (q : Port). TellsFault (WriteFault port) q (ports d q)) (sym e) (λ x. lt, λ x. refl)
+    | inr ne ↦ none_is (WriteFault port) p d (λ e. ne (fault_port port p e)) (none p t ne)
+  ]
 
-  tells_ele : (d : D) → (ports d Node).faults ≡ 0 → 0 < (ports d Ele).faults → (ports d Report).faults ≡ 0 → (p : Port) → p ≢ Trouble → TellsFault (WriteFault Ele) p (ports d p)
-  tells_ele d n lt r Node t = none_is (WriteFault Ele) Node d (λ q. cc) n
-  tells_ele d n lt r Ele t = (λ q. lt, λ q. refl)
-  tells_ele d n lt r Report t = none_is (WriteFault Ele) Report d (λ q. cc) r
-  tells_ele d n lt r Trouble t = absurd (t refl)
+  -- a port that may have changed has none, and no other one has changed
+  still_none : (port : Port) (d after : D) → (ports after port).faults ≡ 0 → ((p : Port) → p ≢ port → ports after p ≡ ports d p) → HasNoFault (ports d) → HasNoFault (ports after)
+  still_none port d after none others z p t = elim (same_or_other p port) [
+    | inl e ↦ subst (λ (q : Port). (ports after q).faults ≡ 0) (sym e) none
+    | inr ne ↦ ap (λ (x : PortState). x.faults) (others p ne) ∙ z p t
+  ]
 
-  pub tells_report : (d : D) → (ports d Node).faults ≡ 0 → (ports d Ele).faults ≡ 0 → 0 < (ports d Report).faults → (p : Port) → p ≢ Trouble → TellsFault (WriteFault Report) p (ports d p)
-  tells_report d n e lt Node t = none_is (WriteFault Report) Node d (λ q. cc) n
-  tells_report d n e lt Ele t = none_is (WriteFault Report) Ele d (λ q. cc) e
-  tells_report d n e lt Report t = (λ q. lt, λ q. refl)
-  tells_report d n e lt Trouble t = absurd (t refl)
+  none_but : (port : Port) (d after : D) → ((p : Port) → p ≢ port → ports after p ≡ ports d p) → HasNoFault (ports d) → (p : Port) → p ≢ Trouble → p ≢ port → (ports after p).faults ≡ 0
+  none_but port d after others z p t ne = ap (λ (x : PortState). x.faults) (others p ne) ∙ z p t
 
   -- ---- ends at which no port was used
 
@@ -61,20 +97,18 @@ module _ {D : Type 0} (ports : D → Port → PortState) where
   not_a_write_fault (WriteFault Ele) files (inr a) p e = cc
   not_a_write_fault (WriteFault Report) files at p e = cc
   not_a_write_fault (WriteFault Trouble) files at p e = absurd at
+  not_a_write_fault (WriteFault Face) files at p e = absurd at
+  not_a_write_fault (WriteFault Neigh) files at p e = absurd at
   not_a_write_fault NoMemory files at p e = cc
+  not_a_write_fault (TooManyTets tets) files at p e = cc
+  not_a_write_fault (BadMesh file why) files at p e = cc
+  not_a_write_fault (NotSound verdict) files at p e = cc
 
   untouched_file : (files : Bool) (p : Port) (name : List ℕ) (IsText : List ℕ → Type 0) (before after : D) → ports after p ≡ ports before p → FileAt ports p (of_files files Untouched) name IsText before after
   untouched_file true p name IsText before after same = same
   untouched_file false p name IsText before after same = same
 
-  no_fault_later : (before after : D) → ((p : Port) → p ≢ Trouble → ports after p ≡ ports before p) → NoFault before → NoFault after
-  no_fault_later before after same z = record {
-    node = ap (λ (p : PortState). p.faults) (same Node (λ e. cc)) ∙ z.node;
-    ele = ap (λ (p : PortState). p.faults) (same Ele (λ e. cc)) ∙ z.ele;
-    report = ap (λ (p : PortState). p.faults) (same Report (λ e. cc)) ∙ z.report;
-  }
-
-  pub untouched : (status : Status) (files : Bool) (name : Port → List ℕ) (IsText : Port → List ℕ → Type 0) (before after : D) → EndsAt status files Reading → ((p : Port) → p ≢ Trouble → ports after p ≡ ports before p) → NoFault before
+  pub untouched : (status : Status) (files : Bool) (name : Port → List ℕ) (IsText : Port → List ℕ → Type 0) (before after : D) → EndsAt status files Reading → ((p : Port) → p ≢ Trouble → ports after p ≡ ports before p) → HasNoFault (ports before)
       → PortsEnd ports status files name IsText before after
   untouched status files name IsText before after at same z = record {
     stage = Reading;
@@ -82,12 +116,14 @@ module _ {D : Type 0} (ports : D → Port → PortState) where
     node = untouched_file files Node (name Node) (IsText Node) before after (same Node (λ e. cc));
     ele = untouched_file files Ele (name Ele) (IsText Ele) before after (same Ele (λ e. cc));
     report = same Report (λ e. cc);
-    faults = tells_none status after (not_a_write_fault status files at) (no_fault_later before after same z);
+    face = same Face (λ e. cc);
+    neigh = same Neigh (λ e. cc);
+    faults = tells_none status after (not_a_write_fault status files at) (λ p t. ap (λ (x : PortState). x.faults) (same p t) ∙ z p t);
   }
 
   -- a text was written to Report alone, or was not
   pub reports : (status : Status) (name : Port → List ℕ) (IsText : Port → List ℕ → Type 0) (written : List ℕ) (before after : D) → ((text : List ℕ) → IsText Report text → text ≡ written)
-      → Reports status (ports before Report) (ports after Report) written → ((p : Port) → p ≢ Report → ports after p ≡ ports before p) → NoFault before → PortsEnd ports status false name IsText before after
+      → Reports status (ports before Report) (ports after Report) written → ((p : Port) → p ≢ Report → ports after p ≡ ports before p) → HasNoFault (ports before) → PortsEnd ports status false name IsText before after
   reports status name IsText written before after is (inl (e, all, none)) same z =
       subst (λ (s : Status). PortsEnd ports s false name IsText before after) (sym e)
       (record {
@@ -96,7 +132,9 @@ module _ {D : Type 0} (ports : D → Port → PortState) where
         node = same Node (λ q. cc);
         ele = same Ele (λ q. cc);
         report = λ text t. subst (λ (u : List ℕ). Appends (ports before Report).text (ports after Report).text u) (sym (is text t)) all;
-        faults = tells_none Done after (λ p q. cc) (record { node = ap (λ (p : PortState). p.faults) (same Node (λ q. cc)) ∙ z.node; ele = ap (λ (p : PortState). p.faults) (same Ele (λ q. cc)) ∙ z.ele; report = none });
+        face = same Face (λ q. cc);
+        neigh = same Neigh (λ q. cc);
+        faults = tells_none Done after (λ p q. cc) (still_none Report before after none same z);
       })
   reports status name IsText written before after is (inr (e, part, lt)) same z =
       subst (λ (s : Status). PortsEnd ports s false name IsText before after) (sym e)
@@ -106,7 +144,9 @@ module _ {D : Type 0} (ports : D → Port → PortState) where
         node = same Node (λ q. cc);
         ele = same Ele (λ q. cc);
         report = λ text t. subst (λ (u : List ℕ). AppendsPart (ports before Report).text (ports after Report).text u) (sym (is text t)) part;
-        faults = tells_report after (ap (λ (p : PortState). p.faults) (same Node (λ q. cc)) ∙ z.node) (ap (λ (p : PortState). p.faults) (same Ele (λ q. cc)) ∙ z.ele) lt;
+        face = same Face (λ q. cc);
+        neigh = same Neigh (λ q. cc);
+        faults = tells Report after lt (none_but Report before after same z);
       })
 
   -- ---- the same end in other words
@@ -133,6 +173,8 @@ module _ {D : Type 0} (ports : D → Port → PortState) where
     node = file_along Node (of_files files (node_extent e.stage)) (name Node) (P Node) (Q Node) before start after (f Node) (same Node) e.node;
     ele = file_along Ele (of_files files (ele_extent e.stage)) (name Ele) (P Ele) (Q Ele) before start after (f Ele) (same Ele) e.ele;
     report = report_along (report_extent e.stage) (P Report) (Q Report) (ports before Report) (ports start Report) (ports after Report) (f Report) (same Report) e.report;
+    face = e.face ∙ same Face;
+    neigh = e.neigh ∙ same Neigh;
     faults = e.faults;
   }
 
@@ -164,6 +206,8 @@ module _ {D : Type 0} (ports : D → Port → PortState) where
     node = file_later Node (of_files files (node_extent e.stage)) (name Node) (IsText Node) before after later (same Node (λ q. cc)) e.node;
     ele = file_later Ele (of_files files (ele_extent e.stage)) (name Ele) (IsText Ele) before after later (same Ele (λ q. cc)) e.ele;
     report = subst (λ (s : PortState). ReportAt (report_extent e.stage) (IsText Report) (ports before Report) s) (sym (same Report (λ q. cc))) e.report;
+    face = same Face (λ q. cc) ∙ e.face;
+    neigh = same Neigh (λ q. cc) ∙ e.neigh;
     faults = λ p t. subst (λ (s : PortState). TellsFault status p s) (sym (same p t)) (e.faults p t);
   }
 
@@ -178,6 +222,9 @@ module _ {D : Type 0} (ports : D → Port → PortState) where
   only_read ReadFault files stage left at = at
   only_read (WriteFault p) files stage left at = absurd left
   only_read NoMemory files stage left at = absurd left
+  only_read (TooManyTets tets) files stage left at = at
+  only_read (BadMesh file why) files stage left at = at
+  only_read (NotSound verdict) files stage left at = at
 
   file_left : (files : Bool) (p : Port) (name : List ℕ) (IsText : List ℕ → Type 0) (before after : D) → FileAt ports p (of_files files Untouched) name IsText before after → ports after p ≡ ports before p
   file_left true p name IsText before after h = h
@@ -194,6 +241,8 @@ module _ {D : Type 0} (ports : D → Port → PortState) where
       go Ele t = file_left files Ele (name Ele) (IsText Ele) before after (subst (λ (s : Stage). FileAt ports Ele (of_files files (ele_extent s)) (name Ele) (IsText Ele) before after) reading e.ele)
       go Report t = subst (λ (s : Stage). ReportAt (report_extent s) (IsText Report) (ports before Report) (ports after Report)) reading e.report
       go Trouble t = absurd (t refl)
+      go Face t = e.face
+      go Neigh t = e.neigh
 
   -- a command that was carried out has written all
   pub has_written : (status : Status) (files : Bool) (name : Port → List ℕ) (IsText : Port → List ℕ → Type 0) (before after : D) → status ≡ Done → PortsEnd ports status files name IsText before after → HasWritten ports files name IsText before after
@@ -211,10 +260,10 @@ module _ {D : Type 0} (ports : D → Port → PortState) where
   -- no port has a fault that the status tells, where no port has one
   pub no_write_fault : (status : Status) (files : Bool) (name : Port → List ℕ) (IsText : Port → List ℕ → Type 0) (before after : D) → PortsEnd ports status files name IsText before after
       → ((p : Port) → p ≢ Trouble → (ports after p).faults ≡ 0) → (p : Port) → status ≢ WriteFault p
-  no_write_fault status files name IsText before after h none Node e = let lt = (h.faults Node (λ e. cc)).0 e in omega (arith, none Node (λ e. cc))
-  no_write_fault status files name IsText before after h none Ele e = let lt = (h.faults Ele (λ e. cc)).0 e in omega (arith, none Ele (λ e. cc))
-  no_write_fault status files name IsText before after h none Report e = let lt = (h.faults Report (λ e. cc)).0 e in omega (arith, none Report (λ e. cc))
-  no_write_fault status files name IsText before after h none Trouble e = not_in_trouble status files name IsText before after h e
+  no_write_fault status files name IsText before after h none p e = elim (same_or_other p Trouble) [
+    | inl t ↦ not_in_trouble status files name IsText before after h (e ∙ ap WriteFault t)
+    | inr ne ↦ (let lt = (h.faults p ne).0 e in omega (arith, none p ne))
+  ]
 
   -- ---- the steps of writing a mesh
 
@@ -230,26 +279,36 @@ module _ {D : Type 0} (ports : D → Port → PortState) where
 
     -- a file could not be opened
     pub opening_fails : (status : Status) (before after : D) (a : List ℕ) → name Node ≡ a → OneFails status (ports before Node) (ports before Ele) (ports after Node) (ports after Ele) a
-        → ports after Report ≡ ports before Report → NoFault before → Ends status before after
-    opening_fails status before after a n (inl (e, same, lt, ele)) report z =
+        → ((p : Port) → p ≢ Node → p ≢ Ele → ports after p ≡ ports before p) → HasNoFault (ports before) → Ends status before after
+    opening_fails status before after a n (inl (e, same, lt, ele)) others z =
         subst (λ (s : Status). Ends s before after) (sym e)
         (record {
           stage = OpeningNode;
           at = inl refl;
           node = same;
           ele = ele;
-          report = report;
-          faults = tells_node after lt (ap (λ (p : PortState). p.faults) ele ∙ z.ele) (ap (λ (p : PortState). p.faults) report ∙ z.report);
+          report = others Report (λ q. cc) (λ q. cc);
+          face = others Face (λ q. cc) (λ q. cc);
+          neigh = others Neigh (λ q. cc) (λ q. cc);
+          faults = tells Node after lt (λ p t ne. elim (same_or_other p Ele) [
+            | inl is ↦ subst (λ (q : Port). (ports after q).faults ≡ 0) (sym is) (ap (λ (x : PortState). x.faults) ele ∙ z Ele (λ q. cc))
+            | inr nor ↦ ap (λ (x : PortState). x.faults) (others p ne nor) ∙ z p t
+          ]);
         })
-    opening_fails status before after a n (inr (e, opened, none, same, lt)) report z =
+    opening_fails status before after a n (inr (e, opened, none, same, lt)) others z =
         subst (λ (s : Status). Ends s before after) (sym e)
         (record {
           stage = OpeningEle;
           at = inl refl;
           node = subst (λ (x : List ℕ). IsOpened (ports after Node) x) (sym n) opened;
           ele = same;
-          report = report;
-          faults = tells_ele after none lt (ap (λ (p : PortState). p.faults) report ∙ z.report);
+          report = others Report (λ q. cc) (λ q. cc);
+          face = others Face (λ q. cc) (λ q. cc);
+          neigh = others Neigh (λ q. cc) (λ q. cc);
+          faults = tells Ele after lt (λ p t ne. elim (same_or_other p Node) [
+            | inl is ↦ subst (λ (q : Port). (ports after q).faults ≡ 0) (sym is) none
+            | inr nor ↦ ap (λ (x : PortState). x.faults) (others p nor ne) ∙ z p t
+          ]);
         })
 
     -- some front of a file's text is there
@@ -280,123 +339,108 @@ module _ {D : Type 0} (ports : D → Port → PortState) where
       closed = w.closed;
     }
 
-    module _ (before opened : D) (both : BothOpen (ports opened Node) (ports opened Ele) (name Node) (name Ele)) (report : ports opened Report ≡ ports before Report) (none : (ports before Report).faults ≡ 0) where
-      report_none : (ports opened Report).faults ≡ 0
-      report_none = ap (λ (p : PortState). p.faults) report ∙ none
+    module _ (before opened : D) (both : BothOpen (ports opened Node) (ports opened Ele) (name Node) (name Ele)) (rest : (p : Port) → p ≢ Node → p ≢ Ele → ports opened p ≡ ports before p) (none : HasNoFault (ports before)) where
+      opened_none : HasNoFault (ports opened)
+      opened_none p t = elim (same_or_other p Node) [
+        | inl is ↦ subst (λ (q : Port). (ports opened q).faults ≡ 0) (sym is) both.node_faults
+        | inr ne ↦ elim (same_or_other p Ele) [
+          | inl is ↦ subst (λ (q : Port). (ports opened q).faults ≡ 0) (sym is) both.ele_faults
+          | inr nor ↦ ap (λ (x : PortState). x.faults) (rest p ne nor) ∙ none p t
+        ]
+      ]
 
       -- the nodes were not all written
-      pub nodes_fail : (status : Status) (after : D) → IsBroken status Node (ports opened Node) (ports after Node) (text Node)
-          → ports after Ele ≡ ports opened Ele → ports after Report ≡ ports opened Report → Ends status before after
-      nodes_fail status after w same_ele same = go w.cause
+      pub nodes_fail : (status : Status) (after : D) → IsBroken status Node (ports opened Node) (ports after Node) (text Node) → ((p : Port) → p ≢ Node → ports after p ≡ ports opened p) → Ends status before after
+      nodes_fail status after w others = go w.cause
         where
-          node_held : HoldsPart ports Node (name Node) (Is Node) after
-          node_held = part_held Node opened after both.node_open w.named w.part
-
-          ele_open : IsOpened (ports after Ele) (name Ele)
-          ele_open = subst (λ (s : PortState). IsOpened s (name Ele)) (sym same_ele) both.ele_open
-
-          ele_none : (ports after Ele).faults ≡ 0
-          ele_none = ap (λ (p : PortState). p.faults) same_ele ∙ both.ele_faults
-
-          later_none : (ports after Report).faults ≡ 0
-          later_none = ap (λ (p : PortState). p.faults) same ∙ report_none
+          ends : (s : Status) → EndsAt s true WritingNode → ((p : Port) → p ≢ Trouble → TellsFault s p (ports after p)) → Ends s before after
+          ends s at faults = record {
+            stage = WritingNode;
+            at = at;
+            node = part_held Node opened after both.node_open w.named w.part;
+            ele = subst (λ (s : PortState). IsOpened s (name Ele)) (sym (others Ele (λ q. cc))) both.ele_open;
+            report = others Report (λ q. cc) ∙ rest Report (λ q. cc) (λ q. cc);
+            face = others Face (λ q. cc) ∙ rest Face (λ q. cc) (λ q. cc);
+            neigh = others Neigh (λ q. cc) ∙ rest Neigh (λ q. cc) (λ q. cc);
+            faults = faults;
+          }
 
           go : ((status ≡ WriteFault Node) × (0 < (ports after Node).faults)) ⊎ ((status ≡ NoMemory) × ((ports after Node).faults ≡ 0)) → Ends status before after
-          go (inl (e, lt)) =
-              subst (λ (s : Status). Ends s before after) (sym e)
-              (record { stage = WritingNode; at = inr refl; node = node_held; ele = ele_open; report = same ∙ report; faults = tells_node after lt ele_none later_none })
-          go (inr (e, zero)) =
-              subst (λ (s : Status). Ends s before after) (sym e)
-              (record {
-                stage = WritingNode;
-                at = inr (inl refl);
-                node = node_held;
-                ele = ele_open;
-                report = same ∙ report;
-                faults = tells_none NoMemory after (λ p q. cc) (record { node = zero; ele = ele_none; report = later_none });
-              })
+          go (inl (e, lt)) = subst (λ (s : Status). Ends s before after) (sym e) (ends (WriteFault Node) (inr refl) (tells Node after lt (none_but Node opened after others opened_none)))
+          go (inr (e, still)) = subst (λ (s : Status). Ends s before after) (sym e) (ends NoMemory (inr (inl refl)) (tells_none NoMemory after (λ p q. cc) (still_none Node opened after still others opened_none)))
 
-      module _ (nodes : D) (put_nodes : IsWritten (ports opened Node) (ports nodes Node) (text Node)) (nodes_ele : ports nodes Ele ≡ ports opened Ele) (nodes_report : ports nodes Report ≡ ports opened Report) where
+      module _ (nodes : D) (put_nodes : IsWritten (ports opened Node) (ports nodes Node) (text Node)) (nodes_others : (p : Port) → p ≢ Node → ports nodes p ≡ ports opened p) where
         nodes_held : HoldsAll ports Node (name Node) (Is Node) nodes
         nodes_held = all_held Node opened nodes both.node_open put_nodes
 
+        nodes_none : HasNoFault (ports nodes)
+        nodes_none = still_none Node opened nodes put_nodes.faults nodes_others opened_none
+
         ele_open : IsOpened (ports nodes Ele) (name Ele)
-        ele_open = subst (λ (s : PortState). IsOpened s (name Ele)) (sym nodes_ele) both.ele_open
+        ele_open = subst (λ (s : PortState). IsOpened s (name Ele)) (sym (nodes_others Ele (λ q. cc))) both.ele_open
 
         -- the tetrahedra were not all written
-        pub tets_fail : (status : Status) (after : D) → IsBroken status Ele (ports nodes Ele) (ports after Ele) (text Ele)
-            → ports after Node ≡ ports nodes Node → ports after Report ≡ ports nodes Report → Ends status before after
-        tets_fail status after w same_node same = go w.cause
+        pub tets_fail : (status : Status) (after : D) → IsBroken status Ele (ports nodes Ele) (ports after Ele) (text Ele) → ((p : Port) → p ≢ Ele → ports after p ≡ ports nodes p) → Ends status before after
+        tets_fail status after w others = go w.cause
           where
-            ele_held : HoldsPart ports Ele (name Ele) (Is Ele) after
-            ele_held = part_held Ele nodes after ele_open w.named w.part
-
-            node_none : (ports after Node).faults ≡ 0
-            node_none = ap (λ (p : PortState). p.faults) same_node ∙ put_nodes.faults
-
-            later_none : (ports after Report).faults ≡ 0
-            later_none = ap (λ (p : PortState). p.faults) (same ∙ nodes_report) ∙ report_none
+            ends : (s : Status) → EndsAt s true WritingEle → ((p : Port) → p ≢ Trouble → TellsFault s p (ports after p)) → Ends s before after
+            ends s at faults = record {
+              stage = WritingEle;
+              at = at;
+              node = held_later Node nodes after (others Node (λ q. cc)) nodes_held;
+              ele = part_held Ele nodes after ele_open w.named w.part;
+              report = others Report (λ q. cc) ∙ (nodes_others Report (λ q. cc) ∙ rest Report (λ q. cc) (λ q. cc));
+              face = others Face (λ q. cc) ∙ (nodes_others Face (λ q. cc) ∙ rest Face (λ q. cc) (λ q. cc));
+              neigh = others Neigh (λ q. cc) ∙ (nodes_others Neigh (λ q. cc) ∙ rest Neigh (λ q. cc) (λ q. cc));
+              faults = faults;
+            }
 
             go : ((status ≡ WriteFault Ele) × (0 < (ports after Ele).faults)) ⊎ ((status ≡ NoMemory) × ((ports after Ele).faults ≡ 0)) → Ends status before after
-            go (inl (e, lt)) =
-                subst (λ (s : Status). Ends s before after) (sym e)
-                (record {
-                  stage = WritingEle;
-                  at = inr refl;
-                  node = held_later Node nodes after same_node nodes_held;
-                  ele = ele_held;
-                  report = same ∙ (nodes_report ∙ report);
-                  faults = tells_ele after node_none lt later_none;
-                })
-            go (inr (e, zero)) =
-                subst (λ (s : Status). Ends s before after) (sym e)
-                (record {
-                  stage = WritingEle;
-                  at = inr (inr (inl refl));
-                  node = held_later Node nodes after same_node nodes_held;
-                  ele = ele_held;
-                  report = same ∙ (nodes_report ∙ report);
-                  faults = tells_none NoMemory after (λ p q. cc) (record { node = node_none; ele = zero; report = later_none });
-                })
+            go (inl (e, lt)) = subst (λ (s : Status). Ends s before after) (sym e) (ends (WriteFault Ele) (inr refl) (tells Ele after lt (none_but Ele nodes after others nodes_none)))
+            go (inr (e, still)) = subst (λ (s : Status). Ends s before after) (sym e) (ends NoMemory (inr (inr (inl refl))) (tells_none NoMemory after (λ p q. cc) (still_none Ele nodes after still others nodes_none)))
 
-        module _ (tets : D) (put_tets : IsWritten (ports nodes Ele) (ports tets Ele) (text Ele)) (tets_node : ports tets Node ≡ ports nodes Node) (tets_report : ports tets Report ≡ ports nodes Report) where
-          report_is : ports tets Report ≡ ports before Report
-          report_is = tets_report ∙ (nodes_report ∙ report)
+        module _ (tets : D) (put_tets : IsWritten (ports nodes Ele) (ports tets Ele) (text Ele)) (tets_others : (p : Port) → p ≢ Ele → ports tets p ≡ ports nodes p) where
+          rest_is : (p : Port) → p ≢ Node → p ≢ Ele → ports tets p ≡ ports before p
+          rest_is p n e = tets_others p e ∙ (nodes_others p n ∙ rest p n e)
 
-          node_none : (ports tets Node).faults ≡ 0
-          node_none = ap (λ (p : PortState). p.faults) tets_node ∙ put_nodes.faults
+          tets_none : HasNoFault (ports tets)
+          tets_none = still_none Ele nodes tets put_tets.faults tets_others nodes_none
 
           -- there was no memory for the counts
           pub report_fails : Ends NoMemory before tets
           report_fails = record {
             stage = BeforeReport;
             at = inr (inr (inr refl));
-            node = held_later Node nodes tets tets_node nodes_held;
+            node = held_later Node nodes tets (tets_others Node (λ q. cc)) nodes_held;
             ele = all_held Ele nodes tets ele_open put_tets;
-            report = report_is;
-            faults = tells_none NoMemory tets (λ p q. cc) (record { node = node_none; ele = put_tets.faults; report = ap (λ (p : PortState). p.faults) (tets_report ∙ nodes_report) ∙ report_none });
+            report = rest_is Report (λ q. cc) (λ q. cc);
+            face = rest_is Face (λ q. cc) (λ q. cc);
+            neigh = rest_is Neigh (λ q. cc) (λ q. cc);
+            faults = tells_none NoMemory tets (λ p q. cc) tets_none;
           }
 
           -- the counts were written, or were not
-          pub report_ends : (status : Status) (counts : List ℕ) (after : D) → counts ≡ text Report → Reports status (ports tets Report) (ports after Report) counts
-              → ports after Node ≡ ports tets Node → ports after Ele ≡ ports tets Ele → Ends status before after
-          report_ends status counts after is (inl (e, all, none)) same_node same_ele =
-              subst (λ (s : Status). Ends s before after) (sym e)
-              (record {
-                stage = Finished;
-                at = refl;
-                node = held_later Node nodes after (same_node ∙ tets_node) nodes_held;
-                ele = held_later Ele tets after same_ele (all_held Ele nodes tets ele_open put_tets);
-                report = λ t f. subst (λ (s : PortState). Appends s.text (ports after Report).text t) report_is (subst (λ (u : List ℕ). Appends (ports tets Report).text (ports after Report).text u) (is ∙ sym f) all);
-                faults = tells_none Done after (λ p q. cc) (record { node = ap (λ (p : PortState). p.faults) same_node ∙ node_none; ele = ap (λ (p : PortState). p.faults) same_ele ∙ put_tets.faults; report = none });
-              })
-          report_ends status counts after is (inr (e, part, lt)) same_node same_ele =
-              subst (λ (s : Status). Ends s before after) (sym e)
-              (record {
-                stage = WritingReport;
-                at = refl;
-                node = held_later Node nodes after (same_node ∙ tets_node) nodes_held;
-                ele = held_later Ele tets after same_ele (all_held Ele nodes tets ele_open put_tets);
-                report = λ t f. subst (λ (s : PortState). AppendsPart s.text (ports after Report).text t) report_is (subst (λ (u : List ℕ). AppendsPart (ports tets Report).text (ports after Report).text u) (is ∙ sym f) part);
-                faults = tells_report after (ap (λ (p : PortState). p.faults) same_node ∙ node_none) (ap (λ (p : PortState). p.faults) same_ele ∙ put_tets.faults) lt;
-              })
+          pub report_ends : (status : Status) (counts : List ℕ) (after : D) → counts ≡ text Report → Reports status (ports tets Report) (ports after Report) counts → ((p : Port) → p ≢ Report → ports after p ≡ ports tets p) → Ends status before after
+          report_ends status counts after is r others = go r
+            where
+              ends : (s : Status) (stage : Stage) → EndsAt s true stage → node_extent stage ≡ Whole → ele_extent stage ≡ Whole → ReportAt (report_extent stage) (Is Report) (ports before Report) (ports after Report) → ((p : Port) → p ≢ Trouble → TellsFault s p (ports after p)) → Ends s before after
+              ends s stage at n e report faults = record {
+                stage = stage;
+                at = at;
+                node = subst (λ (x : Extent). FileAt ports Node x (name Node) (Is Node) before after) (sym n) (held_later Node nodes after (others Node (λ q. cc) ∙ tets_others Node (λ q. cc)) nodes_held);
+                ele = subst (λ (x : Extent). FileAt ports Ele x (name Ele) (Is Ele) before after) (sym e) (held_later Ele tets after (others Ele (λ q. cc)) (all_held Ele nodes tets ele_open put_tets));
+                report = report;
+                face = others Face (λ q. cc) ∙ rest_is Face (λ q. cc) (λ q. cc);
+                neigh = others Neigh (λ q. cc) ∙ rest_is Neigh (λ q. cc) (λ q. cc);
+                faults = faults;
+              }
+
+              go : Reports status (ports tets Report) (ports after Report) counts → Ends status before after
+              go (inl (e, all, still)) =
+                  subst (λ (s : Status). Ends s before after) (sym e)
+                  (ends Done Finished refl refl refl (λ t f. subst (λ (s : PortState). Appends s.text (ports after Report).text t) (rest_is Report (λ q. cc) (λ q. cc)) (subst (λ (u : List ℕ). Appends (ports tets Report).text (ports after Report).text u) (is ∙ sym f) all))
+                  (tells_none Done after (λ p q. cc) (still_none Report tets after still others tets_none)))
+              go (inr (e, part, lt)) =
+                  subst (λ (s : Status). Ends s before after) (sym e)
+                  (ends (WriteFault Report) WritingReport refl refl refl (λ t f. subst (λ (s : PortState). AppendsPart s.text (ports after Report).text t) (rest_is Report (λ q. cc) (λ q. cc)) (subst (λ (u : List ℕ). AppendsPart (ports tets Report).text (ports after Report).text u) (is ∙ sym f) part))
+                  (tells Report after lt (none_but Report tets after others tets_none)))

@@ -4,15 +4,16 @@ use Rattle.std.specs.Prelude.{Ok}
 use Rattle.definitions.specs.Values.{Field}
 use Rattle.definitions.specs.States.{Shares}
 use Rattle.formats.specs.declared.Status.{Status}
-use Rattle.formats.specs.declared.Status.TheVariants.{Done, BadWords, BadHeader, Unsupported, TooLarge, Truncated, ReadFault, WriteFault, NoMemory}
+use Rattle.formats.specs.declared.Status.TheVariants.{Done, BadWords, BadHeader, Unsupported, TooLarge, Truncated, ReadFault, WriteFault, NoMemory, TooManyTets, BadMesh, NotSound}
 use Rattle.phantom.specs.Phantom.{phantom_volume}
 use Rattle.command_line.specs.declared.Plan.{Plan}
-use Rattle.command_line.specs.Grammar.{Command, CountSigns, MakeMesh, MakeDemo}
+use Rattle.command_line.specs.Grammar.{Command, CountSigns, MakeMesh, MakeDemo, Meshing}
 use Rattle.command_words.specs.declared.Command.{Command as Found}
 use Rattle.command_words.specs.declared.Command.TheVariants as found
 use Rattle.command_words.specs.declared.MeshSettings.{MeshSettings}
 use Rattle.command_words.specs.Commands.{meaning_of, mesh_of, plan_with}
 use Rattle.survey.specs.Surveys.{IsSurvey, SurveyValue}
+use Rattle.stuff.specs.declared.input.Scan.{Scan}
 use Rattle.stuff.specs.Inputs.{Settings, settings_of}
 use Rattle.stuff.specs.Outputs.{demo_field, field_from, usual_shares}
 use Rattle.stuff.specs.Ends.{IsRefusal, ReadsField}
@@ -30,6 +31,9 @@ kept (Truncated got wanted) f s slab t trace h e = e
 kept ReadFault f s slab t trace h e = e
 kept (WriteFault port) f s slab t trace h e = e
 kept NoMemory f s slab t trace h e = e
+kept (TooManyTets tets) f s slab t trace h e = e
+kept (BadMesh file why) f s slab t trace h e = e
+kept (NotSound verdict) f s slab t trace h e = e
 
 -- nothing is kept of a refusal
 none_kept : (status : Status) (f : Field) (s : Shares) (slab : ℕ) (trace : Option SurveyValue) → IsRefusal status → trace ≡ None → TracesMesh status f s slab trace
@@ -42,22 +46,25 @@ none_kept (Truncated got wanted) f s slab trace r e = e
 none_kept ReadFault f s slab trace r e = e
 none_kept (WriteFault port) f s slab trace r e = absurd r
 none_kept NoMemory f s slab trace r e = e
+none_kept (TooManyTets tets) f s slab trace r e = e
+none_kept (BadMesh file why) f s slab trace r e = e
+none_kept (NotSound verdict) f s slab trace r e = e
 
 refusal_traces : (status : Status) (c : Command) (f : Field) (trace : Option SurveyValue) → IsRefusal status → trace ≡ None → Traces status c f trace
 refusal_traces status (CountSigns input level below step) f trace r e = e
-refusal_traces status (MakeMesh input output level below step shares plan) f trace r e = none_kept status f shares plan.slab trace r e
+refusal_traces status (MakeMesh m) f trace r e = none_kept status f m.shares m.plan.slab trace r e
 refusal_traces status (MakeDemo size seed plan) f trace r e = none_kept status f usual_shares plan.slab trace r e
 
 pub refused : (status : Status) (c : Command) (told : Option (List ℕ)) (any : Field) (trace : Option SurveyValue) → IsRefusal status → trace ≡ None → TraceEnds status c (IsFieldOf told c) trace
 refused status c told any trace r e = record { there = (any, refusal_traces status c any trace r e); is = λ f h. refusal_traces status c f trace r e }
 
 -- of the field that was read
-pub meshed : (status : Status) (c : Command) (s : Settings) (f : Field) (told left : Option (List ℕ)) (trace : Option SurveyValue) (i o : ℕ) (l : _) (b : _) (n : ℕ) (shares : Shares) (plan : Plan) (slab : ℕ) → s ≡ settings_of c → ((text : List ℕ) → told ≡ Some text → ReadsField (Ok f) s text left)
-    → c ≡ MakeMesh i o l b n shares plan → slab ≡ plan.slab → TracesMesh status f shares slab trace → TraceEnds status c (IsFieldOf told c) trace
-meshed status c s f told left trace i o l b n shares plan slab e reads is at h =
-    let k : Traces status (MakeMesh i o l b n shares plan) f trace = subst (λ (x : ℕ). TracesMesh status f shares x trace) at h in
-    let at_c : Traces status c f trace = subst (λ (m : Command). Traces status m f trace) (sym is) k in
-    record { there = (f, at_c); is = λ x t. subst (λ (y : Field). Traces status c y trace) (field_is c s f told left e reads t.volume (is_told_volume c told t.volume i o l b n shares plan is t.volume_is) ∙ sym t.field_is) at_c }
+pub meshed : (status : Status) (c : Command) (s : Settings) (scan : Scan) (told left : Option (List ℕ)) (trace : Option SurveyValue) (m : Meshing) (slab : ℕ) → s ≡ settings_of c → ((text : List ℕ) → told ≡ Some text → ReadsField (Ok scan) s text left)
+    → c ≡ MakeMesh m → slab ≡ m.plan.slab → TracesMesh status scan.field m.shares slab trace → TraceEnds status c (IsFieldOf told c) trace
+meshed status c s scan told left trace m slab e reads is at h =
+    let k : Traces status (MakeMesh m) scan.field trace = subst (λ (x : ℕ). TracesMesh status scan.field m.shares x trace) at h in
+    let at_c : Traces status c scan.field trace = subst (λ (m : Command). Traces status m scan.field trace) (sym is) k in
+    record { there = (scan.field, at_c); is = λ x t. subst (λ (y : Field). Traces status c y trace) (field_is c s scan told left e reads t.volume (is_told_volume c told t.volume m is t.volume_is) ∙ sym t.field_is) at_c }
 
 pub counted : (status : Status) (c : Command) (told : Option (List ℕ)) (any : Field) (trace : Option SurveyValue) (i : ℕ) (l : _) (b : _) (n : ℕ) → c ≡ CountSigns i l b n → trace ≡ None → TraceEnds status c (IsFieldOf told c) trace
 counted status c told any trace i l b n is e =
@@ -83,14 +90,14 @@ along status c told left trace h e = record { there = e.there; is = λ f t. e.is
 -- the plan of a mesh and of a demo
 pub plan_of_mesh : (c : Found) (m : MeshSettings) → mesh_of c ≡ Some m → (plan_with c).slab ≡ m.plan.slab
 plan_of_mesh (found.Count input level below step) m e = cc
-plan_of_mesh (found.Mesh input output level below step shares plan) m e =
-    let same : record { output = output; shares = shares; plan = plan } ≡ m = cc in
+plan_of_mesh (found.Mesh input output level below step shares plan numbering world) m e =
+    let same : record { output = output; shares = shares; plan = plan; numbering = numbering; world = world } ≡ m = cc in
     ap (λ (x : MeshSettings). x.plan.slab) same
 plan_of_mesh (found.Demo size seed plan) m e = cc
 
 pub plan_of_demo : (c : Found) (size seed : ℕ) (plan : Plan) → meaning_of c ≡ MakeDemo size seed plan → (plan_with c).slab ≡ plan.slab
 plan_of_demo (found.Count input level below step) size seed plan e = cc
-plan_of_demo (found.Mesh input output level below step shares p) size seed plan e = cc
+plan_of_demo (found.Mesh input output level below step shares p numbering world) size seed plan e = cc
 plan_of_demo (found.Demo n k p) size seed plan e = let same : p ≡ plan = cc in ap (λ (x : Plan). x.slab) same
 
 -- what a survey's trace is of

@@ -1,56 +1,60 @@
 -- What a told input comes to, where nothing fails and memory is there.
 use Rattle.std.specs.Prelude.{◌≡◌, ℕ, ◌+◌, ◌<◌, ◌≤◌, ◌⊎◌, List, [], ◌∷◌, length, drop, Bool, true, false, IsTrue, Option, Some, None, Result, Ok, Err, ℤ, pos, slice_index_or}
+use Rattle.formats.specs.declared.Axis.{Axis}
 use Rattle.formats.specs.declared.Status.{Status}
 use Rattle.formats.specs.declared.Status.TheVariants.{Done, TooLarge, Truncated}
 use Rattle.formats.specs.declared.HeadFault.{HeadFault}
 use Rattle.formats.specs.Faults.{status_of}
 use Rattle.formats.specs.Heads.{HeadAt, head_of, head_taken, ends_in_head}
-use Rattle.formats.specs.Volumes.{Volume, VolumeAnswer, Large, EndsEarly, Whole, volume_answer, wanted_bytes, first_limits}
+use Rattle.formats.specs.Volumes.{Volume, VolumeAnswer, Large, EndsEarly, Whole, volume_answer, wanted_bytes, second_limits}
 use Rattle.command_line.specs.Grammar.{Command, Reads, CountSigns, MakeMesh, MakeDemo}
 
--- What an input comes to: a status, how many of its bytes are read, whether that is known only at its end, and the volume that it holds.
+-- What an input comes to: a status, how many of its bytes are read, whether that is known only at its end, the volume that it holds, and the axes of its head.
 pub record Outcome : Type 0 where
   pub status : Status
   pub taken : ℕ
   pub at_end : Bool
   pub volume : Option Volume
+  pub axes : List Axis
 
-abbrev pub outcome : Status → ℕ → Bool → Option Volume → Outcome
-outcome status taken at_end volume = record { status = status; taken = taken; at_end = at_end; volume = volume }
+abbrev pub outcome : Status → ℕ → Bool → Option Volume → List Axis → Outcome
+outcome status taken at_end volume axes = record { status = status; taken = taken; at_end = at_end; volume = volume; axes = axes }
 
 abbrev pub outcome_of_volume : List ℕ → HeadAt → VolumeAnswer → Outcome
-outcome_of_volume text h (Large padded) = outcome (TooLarge padded) h.len false None
-outcome_of_volume text h (EndsEarly got wanted) = outcome (Truncated got wanted) (length text) true None
-outcome_of_volume text h (Whole v) = outcome Done (h.len + wanted_bytes h.head) false (Some v)
+outcome_of_volume text h (Large padded) = outcome (TooLarge padded) h.len false None h.head.axes
+outcome_of_volume text h (EndsEarly got wanted) = outcome (Truncated got wanted) (length text) true None h.head.axes
+outcome_of_volume text h (Whole v) = outcome Done (h.len + wanted_bytes h.head) false (Some v) h.head.axes
 
 abbrev pub outcome_of_head : ℕ → List ℕ → Result HeadAt HeadFault → Outcome
-outcome_of_head step text (Err fault) = outcome (status_of fault) (head_taken text) (ends_in_head text) None
-outcome_of_head step text (Ok h) = outcome_of_volume text h (volume_answer first_limits text h step)
+outcome_of_head step text (Err fault) = outcome (status_of fault) (head_taken text) (ends_in_head text) None []
+outcome_of_head step text (Ok h) = outcome_of_volume text h (volume_answer second_limits text h step)
 
-unfoldable pub outcome_of : ℕ → List ℕ → Outcome
-outcome_of step text = outcome_of_head step text (head_of text)
+-- coordinates are in the volume's own units where `world` is set
+unfoldable pub outcome_of : Bool → ℕ → List ℕ → Outcome
+outcome_of world step text = outcome_of_head step text (head_of world text)
 
--- What the words say of the volume: twice the level, whether the region lies below it, and each how many samples one is taken. A demo is at level 199.5.
+-- What the words say of the volume: twice the level, whether the region lies below it, each how many samples one is taken, and whether coordinates are in its own units. A demo is at level 199.5.
 pub record Settings : Type 0 where
   pub twice : ℤ
   pub below : Bool
   pub step : ℕ
+  pub world : Bool
 
 abbrev pub settings_of : Command → Settings
-settings_of (CountSigns input level below step) = record { twice = level; below = below; step = step }
-settings_of (MakeMesh input output level below step shares plan) = record { twice = level; below = below; step = step }
-settings_of (MakeDemo size seed plan) = record { twice = pos 399; below = false; step = 1 }
+settings_of (CountSigns input level below step) = record { twice = level; below = below; step = step; world = false }
+settings_of (MakeMesh m) = record { twice = m.level; below = m.below; step = m.step; world = m.world }
+settings_of (MakeDemo size seed plan) = record { twice = pos 399; below = false; step = 1; world = false }
 
 -- the names of the files that a command reads
 abbrev pub input_names : List (List ℕ) → Command → List (List ℕ)
 input_names words (CountSigns input level below step) = slice_index_or words input [] ∷ []
-input_names words (MakeMesh input output level below step shares plan) = slice_index_or words input [] ∷ []
+input_names words (MakeMesh m) = slice_index_or words m.input [] ∷ []
 input_names words (MakeDemo size seed plan) = []
 
 -- what is told of its input, if it has one
 abbrev pub told_input : (List ℕ → Option (List ℕ)) → List (List ℕ) → Command → Option (List ℕ)
 told_input held words (CountSigns input level below step) = held (slice_index_or words input [])
-told_input held words (MakeMesh input output level below step shares plan) = held (slice_index_or words input [])
+told_input held words (MakeMesh m) = held (slice_index_or words m.input [])
 told_input held words (MakeDemo size seed plan) = None
 
 -- so many bytes of the text were read
@@ -59,10 +63,10 @@ pub record IsLeft (text : List ℕ) (n : ℕ) (left : Option (List ℕ)) : Type 
   pub within : n ≤ length text
 
 -- A fault of reading comes before the last byte that is read, or where the end of the input decides.
-pub record BreaksOff (step : ℕ) (text : List ℕ) (left : Option (List ℕ)) : Type 0 where
+pub record BreaksOff (world : Bool) (step : ℕ) (text : List ℕ) (left : Option (List ℕ)) : Type 0 where
   pub taken : ℕ
   pub is_left : IsLeft text taken left
-  pub early : (taken < (outcome_of step text).taken) ⊎ ((taken ≡ length text) × IsTrue (outcome_of step text).at_end)
+  pub early : (taken < (outcome_of world step text).taken) ⊎ ((taken ≡ length text) × IsTrue (outcome_of world step text).at_end)
 
 -- the words say these settings, and name an input whose bytes are told
 pub record IsInput (words : List (List ℕ)) (held : List ℕ → Option (List ℕ)) (text : List ℕ) (s : Settings) : Type 0 where

@@ -2,7 +2,7 @@
 use Rattle.std.specs.Prelude.{◌≡◌, ◌≢◌, ◌⊎◌, ◌↔◌, ◌<◌, ℕ, List, Bool, true, false, ⊤}
 use Rattle.std.specs.Io.KnownBytes.{Appends}
 use Rattle.formats.specs.declared.Port.{Port}
-use Rattle.formats.specs.declared.Port.TheVariants.{Node, Ele, Report, Trouble}
+use Rattle.formats.specs.declared.Port.TheVariants.{Node, Ele, Report, Trouble, Face, Neigh}
 use Rattle.formats.specs.declared.Status.{Status}
 use Rattle.formats.specs.declared.Status.TheVariants.{Done, WriteFault, NoMemory}
 use Rattle.st_base.specs.Desk.{PortState, BeginsAs, SamePort, AppendsPart}
@@ -29,7 +29,7 @@ EndsAt Done files stage = stage ≡ Finished
 EndsAt (WriteFault Node) files stage = (stage ≡ OpeningNode) ⊎ (stage ≡ WritingNode)
 EndsAt (WriteFault Ele) files stage = (stage ≡ OpeningEle) ⊎ (stage ≡ WritingEle)
 EndsAt (WriteFault Report) files stage = stage ≡ WritingReport
-EndsAt (WriteFault Trouble) files stage = ⊥
+EndsAt (WriteFault p) files stage = ⊥
 EndsAt NoMemory files stage = LacksMemoryAt files stage
 EndsAt status files stage = stage ≡ Reading
 
@@ -110,13 +110,15 @@ of_files false extent = Untouched
 abbrev pub TellsFault : Status → Port → PortState → Type 0
 TellsFault status p port = (status ≡ WriteFault p) ↔ (0 < port.faults)
 
--- How a command leaves the ports: `files` says whether it writes files, `name` is what they are called, and `IsText p text` that a port's text is this one.
+-- How a command leaves the ports: `files` says whether it writes files, `name` is what they are called, and `IsText p text` that a port's text is this one. Faces and neighbours are not written.
 pub record PortsEnd {D : Type 0} (ports : D → Port → PortState) (status : Status) (files : Bool) (name : Port → List ℕ) (IsText : Port → List ℕ → Type 0) (before after : D) : Type 0 where
   pub stage : Stage
   pub at : EndsAt status files stage
   pub node : FileAt ports Node (of_files files (node_extent stage)) (name Node) (IsText Node) before after
   pub ele : FileAt ports Ele (of_files files (ele_extent stage)) (name Ele) (IsText Ele) before after
   pub report : ReportAt (report_extent stage) (IsText Report) (ports before Report) (ports after Report)
+  pub face : ports after Face ≡ ports before Face
+  pub neigh : ports after Neigh ≡ ports before Neigh
   pub faults : (p : Port) → p ≢ Trouble → TellsFault status p (ports after p)
 
 -- How a command that was carried out leaves the ports: its files hold their whole texts and are finished, and Report holds its text.

@@ -39,7 +39,7 @@ TracesMesh status f s slab trace = trace ≡ None
 -- the same of a command about a field; one that counts has none
 abbrev pub Traces : Status → Command → Field → Option SurveyValue → Type 0
 Traces status (CountSigns input level below step) f trace = trace ≡ None
-Traces status (MakeMesh input output level below step shares plan) f trace = TracesMesh status f shares plan.slab trace
+Traces status (MakeMesh m) f trace = TracesMesh status f m.shares m.plan.slab trace
 Traces status (MakeDemo size seed plan) f trace = TracesMesh status f usual_shares plan.slab trace
 
 -- the same of some field, whether it is told or not

@@ -4,7 +4,6 @@ ghost use Rattle.formats.specs.declared.Port.TheVariants.{Report, Trouble};
 ghost use Rattle.formats.specs.Texts.{sign_line};
 ghost use Rattle.command_line.specs.Grammar.{IsPlan};
 ghost use Rattle.definitions.specs.Mesh.{mesh};
-ghost use Rattle.definitions.specs.States.{IsShares};
 ghost use Rattle.mesh_texts.specs.Report.{report};
 ghost use Rattle.st_base.specs.Frames.{OnlyPort};
 ghost use Rattle.stuff.specs.Ports.{IsAtOutput, PortsEnd};
@@ -13,12 +12,13 @@ ghost use Rattle.stuff.specs.Traces.{IsTraceOf, TracesMesh};
 
 use crate::files::write_report;
 use crate::signs::sign_text;
-use crate::surveyed::{keep_trace, node_count, source_of, survey_of, tet_count};
+use crate::surveyed::{keep_trace, node_count, survey_of, tet_count};
 use command_line::Plan;
 use mesh_rounds::extremes;
 use node_ele_write::report_text;
 use phantom::phantom;
 use samples::{Field, Level};
+use slab_work::source_of;
 use snap_rule::Shares;
 use st_base::{Desk, Gate, NoMemory, Status};
 use std::alloc::Global;
@@ -35,7 +35,7 @@ fn field_of_demo(alloc: Global, size: u32, seed: u64) -> Result<Field, NoMemory>
         unreachable!()
     };
     let volume = phantom(alloc, size, seed)?;
-    Field::new(alloc, &volume, level, false)
+    Ok(Field::of_volume(volume, level, false))
 }
 
 // The report of the mesh of a survey. The lines of the mesh are given up round by round.
@@ -46,16 +46,15 @@ fn report_of_survey<G: Gate + Sync, R: Threads + Sync>(
     workers: u32,
     gate: &G,
 ) -> Result<Vec<u8>, NoMemory>
-    requires limits { IsShares survey.now.subject.shares }
     requires some_workers { 1 ≤ workers }
     requires most_workers { workers ≤ 64 }
-    ensures { IfOk result (λ text. text.items ≡ report (mesh survey.now.subject.field survey.now.subject.shares)) }
+    ensures { IfOk result (λ text. text.items ≡ report 0 (mesh survey.now.subject.field survey.now.subject.shares)) }
 {
     let source = source_of(survey);
     let nodes = node_count(survey);
     let tets = tet_count(survey);
     let extremes = extremes(rt, alloc, &source, workers, gate)?;
-    report_text(alloc, nodes, tets, extremes)
+    report_text(alloc, nodes, tets, extremes, 0)
 }
 
 // The report of the mesh of a field, with the usual shares.
@@ -67,7 +66,7 @@ fn report_of_field<G: Gate + Sync, R: Threads + Sync>(
     gate: &G,
 ) -> Result<(Vec<u8>, Trace), NoMemory>
     requires { IsPlan plan }
-    ensures text { IfOk result (λ r. r.0.items ≡ report (mesh field.now usual_shares)) }
+    ensures text { IfOk result (λ r. r.0.items ≡ report 0 (mesh field.now usual_shares)) }
     ensures trace { IfOk result (λ r. IsTraceOf field.now usual_shares plan.slab r.1) }
 {
     let Some(shares) = Shares::new(1023, 1687) else {
@@ -87,7 +86,7 @@ fn text_of_field<G: Gate + Sync, R: Threads + Sync>(
     gate: &G,
 ) -> Result<(Vec<u8>, Trace), NoMemory>
     requires { IsPlan plan }
-    ensures text { IfOk result (λ r. r.0.items ≡ sign_line field.now ++ report (mesh field.now usual_shares)) }
+    ensures text { IfOk result (λ r. r.0.items ≡ sign_line field.now ++ report 0 (mesh field.now usual_shares)) }
     ensures trace { IfOk result (λ r. IsTraceOf field.now usual_shares plan.slab r.1) }
 {
     let mut text = sign_text(alloc, field)?;

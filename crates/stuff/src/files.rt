@@ -1,4 +1,4 @@
-ghost use Rattle.std.specs.Prelude.{◌≡◌, ◌≢◌, ◌++◌, ◌∷◌, [], ◌<◌, ◌≤◌, ◌^◌, ℕ, List, All, length, true, false, OnOk, OnErr, IfOk, IfErr, Ok, Err, MatchResult};
+ghost use Rattle.std.specs.Prelude.{◌≡◌, ◌≢◌, ◌++◌, ◌∷◌, [], ◌<◌, ◌≤◌, ℕ, List, true, false, OnOk, OnErr, IfOk, IfErr, Ok, Err, MatchResult};
 ghost use Rattle.std.specs.Io.KnownBytes.{Appends};
 ghost use Rattle.st_base.specs.Causes.{Rose};
 ghost use Rattle.st_base.specs.Desk.{AppendsPart, MayTry, SamePort, with_name};
@@ -6,20 +6,24 @@ ghost use Rattle.st_base.specs.Frames.{OnlyPort};
 ghost use Rattle.definitions.specs.Angles.{angles, extremes_of};
 ghost use Rattle.formats.specs.declared.Port.{Port};
 ghost use Rattle.formats.specs.declared.Port.TheVariants.{Node, Ele, Report, Trouble};
-ghost use Rattle.node_ele_write.specs.Printable.{IsPrintable};
+ghost use Rattle.definitions.specs.Mesh.{mesh};
+ghost use Rattle.formats.specs.Frames.{IsFrame};
 ghost use Rattle.mesh_texts.specs.Files.{node_text, ele_text};
-ghost use Rattle.mesh_lists.specs.Parts.{mesh_of};
+ghost use Rattle.mesh_texts.specs.Nodes.{mesh_nodes};
+ghost use Rattle.slab_work.specs.Surveyed.{AreKept};
 ghost use Rattle.stuff.specs.Ports.{IsAtOutput, PortsEnd};
 ghost use Rattle.stuff.specs.Outputs.{mesh_text};
 ghost use Rattle.stuff.specs.Writing.{Puts, OpensFiles, TriesFiles, Reports, GrowsAlong, with_names};
 
+use crate::surveyed::{node_count, tet_count};
 use dihedral::Extremes;
 use mesh_rounds::{put_nodes, put_tets};
 use node_ele_write::{PutFault, WriteFault, put_all, report_text};
-use slab_emit::Source;
-use st_base::{Desk, Failed, Gate, NoMemory, Port, Status};
+use slab_work::source_of;
+use st_base::{Desk, Failed, Frame, Gate, NoMemory, Port, Status};
 use std::alloc::Global;
 use std::thread::Threads;
+use survey::Survey;
 
 // Opens both files of a mesh.
 fn open_files<D: Desk>(desk: &mut D, node_name: &[u8], ele_name: &[u8]) -> Result<(), Status>
@@ -49,21 +53,35 @@ fn write_nodes<D: Desk, G: Gate + Sync, R: Threads + Sync>(
     rt: &R,
     alloc: Global,
     desk: &mut D,
-    source: &Source,
-    step: u32,
+    survey: &Survey,
+    frame: Frame,
+    numbering: u32,
     workers: u32,
     gate: &G,
 ) -> Result<(), Status>
     requires is_open { (D.ports desk.old Node).is_open ≡ true }
     requires faults { (D.ports desk.old Node).faults ≡ 0 }
-    requires printable { All (IsPrintable step) (mesh_of source.now.field source.now.states).places }
+    requires frame { IsFrame frame }
+    requires sizes { AreKept frame.step survey.now.subject.field.dims }
+    requires numbering { numbering ≤ 1 }
     requires some_workers { 1 ≤ workers }
     requires most_workers { workers ≤ 64 }
     ensures kind { IfErr result IsAtOutput }
-    ensures puts { Puts result Node (D.ports desk.old Node) (D.ports desk.new Node) (node_text step (mesh_of source.now.field source.now.states).places) }
+    ensures puts { Puts result Node (D.ports desk.old Node) (D.ports desk.new Node) (node_text frame numbering (mesh_nodes survey.now.subject.field survey.now.subject.shares)) }
     ensures apart { OnlyPort D.Desk Node desk.old desk.new }
 {
-    match put_nodes(rt, alloc, desk, Port::Node, source, step, workers, gate) {
+    let source = source_of(survey);
+    match put_nodes(
+        rt,
+        alloc,
+        desk,
+        Port::Node,
+        &source,
+        frame,
+        numbering,
+        workers,
+        gate,
+    ) {
         Ok(()) => {}
         Err(PutFault::WriteFault) => return Err(Status::WriteFault { port: Port::Node }),
         Err(PutFault::NoMemory) => return Err(Status::NoMemory),
@@ -79,20 +97,32 @@ fn write_tets<D: Desk, G: Gate + Sync, R: Threads + Sync>(
     rt: &R,
     alloc: Global,
     desk: &mut D,
-    source: &Source,
+    survey: &Survey,
+    numbering: u32,
     workers: u32,
     gate: &G,
 ) -> Result<Option<Extremes>, Status>
     requires is_open { (D.ports desk.old Ele).is_open ≡ true }
     requires faults { (D.ports desk.old Ele).faults ≡ 0 }
+    requires numbering { numbering ≤ 1 }
     requires some_workers { 1 ≤ workers }
     requires most_workers { workers ≤ 64 }
     ensures kind { IfErr result IsAtOutput }
-    ensures puts { Puts result Ele (D.ports desk.old Ele) (D.ports desk.new Ele) (ele_text (mesh_of source.now.field source.now.states).tets) }
-    ensures extremes { IfOk result (λ e. e ≡ extremes_of (angles (mesh_of source.now.field source.now.states))) }
+    ensures puts { Puts result Ele (D.ports desk.old Ele) (D.ports desk.new Ele) (ele_text numbering (mesh survey.now.subject.field survey.now.subject.shares).tets) }
+    ensures extremes { IfOk result (λ e. e ≡ extremes_of (angles (mesh survey.now.subject.field survey.now.subject.shares))) }
     ensures apart { OnlyPort D.Desk Ele desk.old desk.new }
 {
-    let extremes = match put_tets(rt, alloc, desk, Port::Ele, source, workers, gate) {
+    let source = source_of(survey);
+    let extremes = match put_tets(
+        rt,
+        alloc,
+        desk,
+        Port::Ele,
+        &source,
+        numbering,
+        workers,
+        gate,
+    ) {
         Ok(extremes) => extremes,
         Err(PutFault::WriteFault) => return Err(Status::WriteFault { port: Port::Ele }),
         Err(PutFault::NoMemory) => return Err(Status::NoMemory),
@@ -118,17 +148,16 @@ pub fn write_report<D: Desk>(desk: &mut D, text: &[u8]) -> Status
     }
 }
 
-/// Writes a mesh to the two files, round by round, and its report to Report.
+/// Writes the mesh of a survey to the two files, round by round, and its report to Report.
 pub fn write_mesh<D: Desk, G: Gate + Sync, R: Threads + Sync>(
     rt: &R,
     alloc: Global,
     desk: &mut D,
     node_name: &[u8],
     ele_name: &[u8],
-    source: &Source,
-    nodes: u32,
-    tets: u64,
-    step: u32,
+    survey: &Survey,
+    frame: Frame,
+    numbering: u32,
     workers: u32,
     gate: &G,
 ) -> Status
@@ -136,14 +165,14 @@ pub fn write_mesh<D: Desk, G: Gate + Sync, R: Threads + Sync>(
     requires ele { (D.ports desk.old Ele).is_open ≡ false }
     requires report { (D.ports desk.old Report).is_open ≡ true }
     requires faults { (p : Port) → p ≢ Trouble → (D.ports desk.old p).faults ≡ 0 }
-    requires nodes { nodes ≡ length (mesh_of source.now.field source.now.states).places }
-    requires tets { tets ≡ length (mesh_of source.now.field source.now.states).tets }
-    requires printable { All (IsPrintable step) (mesh_of source.now.field source.now.states).places }
+    requires frame { IsFrame frame }
+    requires sizes { AreKept frame.step survey.now.subject.field.dims }
+    requires numbering { numbering ≤ 1 }
     requires some_workers { 1 ≤ workers }
     requires most_workers { workers ≤ 64 }
     ensures kind { IsAtOutput result }
     ensures report_open { (D.ports desk.new Report).is_open ≡ true }
-    ensures ends { (name : Port → List ℕ) → name Node ≡ node_name.now → name Ele ≡ ele_name.now → PortsEnd D.ports result true name (λ p text. text ≡ mesh_text step (mesh_of source.now.field source.now.states) p) desk.old desk.new }
+    ensures ends { (name : Port → List ℕ) → name Node ≡ node_name.now → name Ele ≡ ele_name.now → PortsEnd D.ports result true name (λ p text. text ≡ mesh_text frame numbering survey.now.subject.field survey.now.subject.shares p) desk.old desk.new }
     ensures tries { GrowsAlong (node_name.now ∷ ele_name.now ∷ []) (D.tried desk.old) (D.tried desk.new) }
     ensures all_tried { result ≡ Status.Done → D.tried desk.new ≡ with_names (D.tried desk.old) (node_name.now ∷ ele_name.now ∷ []) }
     ensures input { D.input desk.new ≡ D.input desk.old }
@@ -154,15 +183,17 @@ pub fn write_mesh<D: Desk, G: Gate + Sync, R: Threads + Sync>(
         Ok(()) => {}
         Err(status) => return status,
     }
-    match write_nodes(rt, alloc, desk, source, step, workers, gate) {
+    match write_nodes(rt, alloc, desk, survey, frame, numbering, workers, gate) {
         Ok(()) => {}
         Err(status) => return status,
     }
-    let extremes = match write_tets(rt, alloc, desk, source, workers, gate) {
+    let extremes = match write_tets(rt, alloc, desk, survey, numbering, workers, gate) {
         Ok(extremes) => extremes,
         Err(status) => return status,
     };
-    match report_text(alloc, nodes, tets, extremes) {
+    let nodes = node_count(survey);
+    let tets = tet_count(survey);
+    match report_text(alloc, nodes, tets, extremes, numbering) {
         Ok(text) => write_report(desk, &text),
         Err(NoMemory) => Status::NoMemory,
     }

@@ -18,7 +18,7 @@ mod top;
 mod trouble;
 
 pub use files::write_report;
-pub use input::{read_field, read_input};
+pub use input::{Scan, read_field, read_input};
 pub use outcome::Outcome;
 pub use signs::sign_text;
 pub use top::stuff;

@@ -7,7 +7,8 @@ ghost use Rattle.formats.specs.declared.Port.{Port};
 ghost use Rattle.formats.specs.declared.Port.TheVariants.{Node, Ele, Report, Trouble};
 ghost use Rattle.st_base.specs.Desk.{IsStart};
 ghost use Rattle.stuff.specs.Inputs.{Settings, settings_of, told_input, IsInput};
-ghost use Rattle.stuff.specs.Outputs.{has_files, file_name, output_names, all_names, IsTextOf};
+ghost use Rattle.formats.specs.Frames.{AreAxes, IsFrame};
+ghost use Rattle.stuff.specs.Outputs.{frame_of as frame_of_lem, has_files, file_name, output_names, all_names, IsTextOf};
 ghost use Rattle.stuff.specs.Traces.{IsFieldOf, TraceEnds};
 ghost use Rattle.stuff.specs.Ports.{KeepsPorts, PortsEnd};
 ghost use Rattle.stuff.specs.Writing.{GrowsAlong, with_names};
@@ -18,10 +19,22 @@ use crate::input::read_field;
 use crate::mesh::mesh_field;
 use crate::signs::write_signs;
 use command_words::{Command, Source, read_words};
-use st_base::{Desk, Failed, Gate, Status, Words};
+use st_base::{Axis, Desk, Failed, Frame, Gate, Status, Words};
 use std::alloc::Global;
 use std::thread::Threads;
 use survey::Trace;
+
+// The frame in which the nodes of a volume with these axes are printed.
+fn frame_of(world: bool, step: u32, axes: [Axis; 3]) -> Frame
+    requires step { 1 ≤ step }
+    requires step_bound { step ≤ 64 }
+    requires axes { AreAxes axes }
+    ensures frame { result ≡ frame_of_lem world step axes }
+    ensures limits { IsFrame result }
+{
+    let world = if world { Some(axes) } else { None };
+    Frame { step, world }
+}
 
 // Does a command's work on the open input.
 fn work<D: Desk, G: Gate + Sync, R: Threads + Sync>(
@@ -39,6 +52,7 @@ fn work<D: Desk, G: Gate + Sync, R: Threads + Sync>(
     requires file { (input : ℕ) × (source_of command.now ≡ File input) }
     requires output { IfSome (mesh_of command.now) (λ m. m.output < length words.now) }
     requires plan { IsPlan (plan_with command.now) }
+    requires numbering { IfSome (mesh_of command.now) (λ m. m.numbering ≤ 1) }
     requires is_open { (D.input desk.old).is_open ≡ true }
     requires no_input_fault { (D.input desk.old).faults ≡ 0 }
     requires node { (D.ports desk.old Node).is_open ≡ false }
@@ -49,7 +63,7 @@ fn work<D: Desk, G: Gate + Sync, R: Threads + Sync>(
     ensures ports { PortsEnd D.ports result (has_files (meaning_of command.now)) (file_name words.now (meaning_of command.now)) (IsTextOf (D.input desk.old).left (meaning_of command.now)) desk.old desk.new }
     ensures trace { TraceEnds result (meaning_of command.now) (IsFieldOf (D.input desk.old).left (meaning_of command.now)) trace.new }
     ensures words { (place : ℕ) → result ≢ Status.BadWords place }
-    ensures accepted { (text : List ℕ) (s : Settings) → HoldsInput (D.input desk.old).left (settings_of (meaning_of command.now)) text s → KeepsPorts (D.ports desk.old) (D.ports desk.new) ⊎ Accepts s.step text (D.input desk.new).left }
+    ensures accepted { (text : List ℕ) (s : Settings) → HoldsInput (D.input desk.old).left (settings_of (meaning_of command.now)) text s → KeepsPorts (D.ports desk.old) (D.ports desk.new) ⊎ Accepts s.world s.step text (D.input desk.new).left }
     ensures report_open { (D.ports desk.new Report).is_open ≡ true }
     ensures tries { GrowsAlong (output_names words.now (meaning_of command.now)) (D.tried desk.old) (D.tried desk.new) }
     ensures all_tried { result ≡ Status.Done → D.tried desk.new ≡ with_names (D.tried desk.old) (output_names words.now (meaning_of command.now)) }
@@ -57,28 +71,31 @@ fn work<D: Desk, G: Gate + Sync, R: Threads + Sync>(
     ensures held { (n : List ℕ) → D.held desk.new n ≡ D.held desk.old n }
 {
     let step = command.step();
-    let field = match read_field(alloc, desk, command.level(), command.below(), step) {
-        Ok(field) => field,
+    let world = command.world();
+    let scan = match read_field(alloc, desk, command.level(), command.below(), step, world) {
+        Ok(scan) => scan,
         Err(status) => return status,
     };
     match command.mesh() {
         Some(mesh) => {
             let output = words.word(mesh.output);
             let plan = command.plan();
+            let frame = frame_of(world, step, scan.axes);
             mesh_field(
                 rt,
                 alloc,
                 desk,
                 output,
-                &field,
+                &scan.field,
                 mesh.shares,
                 plan,
-                step,
+                frame,
+                mesh.numbering,
                 gate,
                 trace,
             )
         }
-        None => write_signs(alloc, desk, &field),
+        None => write_signs(alloc, desk, &scan.field),
     }
 }
 
@@ -98,7 +115,7 @@ pub fn run<D: Desk, G: Gate + Sync, R: Threads + Sync>(
     ensures words { WordsEnd result words.now }
     ensures input { InputEnds result (IsInput words.now (D.held desk.old)) (D.input desk.new) }
     ensures ports { (c : Meaning) → Reads words.now c → PortsEnd D.ports result (has_files c) (file_name words.now c) (IsTextOf (told_input (D.held desk.old) words.now c) c) desk.old desk.new }
-    ensures accepted { (text : List ℕ) (s : Settings) → IsInput words.now (D.held desk.old) text s → KeepsPorts (D.ports desk.old) (D.ports desk.new) ⊎ Accepts s.step text (D.input desk.new).left }
+    ensures accepted { (text : List ℕ) (s : Settings) → IsInput words.now (D.held desk.old) text s → KeepsPorts (D.ports desk.old) (D.ports desk.new) ⊎ Accepts s.world s.step text (D.input desk.new).left }
     ensures report_open { (D.ports desk.new Report).is_open ≡ true }
     ensures unread { (place : ℕ) → result ≡ Status.BadWords place → (p : Port) → D.ports desk.new p ≡ D.ports desk.old p }
     ensures trouble { D.ports desk.new Trouble ≡ D.ports desk.old Trouble }

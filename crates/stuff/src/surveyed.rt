@@ -1,14 +1,13 @@
 ghost use Rattle.std.specs.Prelude.{◌≡◌, ◌+◌, ◌<◌, ◌≤◌, ◌^◌, All, IfOk, None, length};
-ghost use Rattle.definitions.specs.States.{states, IsShares};
+ghost use Rattle.definitions.specs.Mesh.{mesh};
+ghost use Rattle.definitions.specs.States.{IsShares};
 ghost use Rattle.command_line.specs.Grammar.{IsPlan};
-ghost use Rattle.mesh_lists.specs.Parts.{mesh_of};
 ghost use Rattle.survey.specs.Surveys.{IsSurvey};
 ghost use Rattle.stuff.specs.Traces.{KeepsTrace};
 
 use bcc_lattice::vertex_count;
 use command_line::Plan;
 use samples::Field;
-use slab_emit::Source;
 use snap_rule::Shares;
 use st_base::{Gate, NoMemory, Status, Tally};
 use std::alloc::Global;
@@ -48,30 +47,16 @@ pub fn survey_of<'f, G: Gate + Sync, R: Threads + Sync>(
     Ok(survey)
 }
 
-/// That from which the lines of a survey's mesh are made.
-pub fn source_of<'a>(survey: &'a Survey<'a>) -> Source<'a>
-    requires limits { IsShares survey.now.subject.shares }
-    ensures field { result.field ≡ survey.now.subject.field }
-    ensures states { result.states ≡ states survey.now.subject.field survey.now.subject.shares }
-{
-    Source::new(
-        survey.field(),
-        survey.states(),
-        survey.offsets(),
-        survey.layout().slab,
-    )
-}
-
 /// How many nodes a survey's mesh has.
 pub fn node_count(survey: &Survey) -> u32
-    ensures { result ≡ length (mesh_of survey.now.subject.field (states survey.now.subject.field survey.now.subject.shares)).places }
+    ensures { result ≡ length (mesh survey.now.subject.field survey.now.subject.shares).places }
 {
     survey.offsets().nodes()
 }
 
 /// How many tetrahedra it has.
 pub fn tet_count(survey: &Survey) -> u64
-    ensures { result ≡ length (mesh_of survey.now.subject.field (states survey.now.subject.field survey.now.subject.shares)).tets }
+    ensures { result ≡ length (mesh survey.now.subject.field survey.now.subject.shares).tets }
 {
     survey.offsets().tets()
 }
@@ -90,6 +75,9 @@ pub fn keep_trace(status: Status, found: Trace, trace: &mut Option<Trace>)
         | Status::Truncated { .. }
         | Status::ReadFault
         | Status::WriteFault { .. }
-        | Status::NoMemory => {}
+        | Status::NoMemory
+        | Status::TooManyTets { .. }
+        | Status::BadMesh { .. }
+        | Status::NotSound { .. } => {}
     }
 }

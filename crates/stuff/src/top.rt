@@ -46,9 +46,9 @@ pub fn stuff<R: Threads + Sync, D: Desk + Send, G: Gate + Sync>(
     ensures not_trouble { result.status ≢ Status.WriteFault Trouble }
 
     // The status of a told input: no other one of its kind comes, and it does come where nothing fails and memory is there.
-    ensures outcome { (text : List ℕ) (s : Settings) → IsInput words.now (D.held desk.old) text s → IsOutcome result.status → result.status ≡ (outcome_of s.step text).status }
+    ensures outcome { (text : List ℕ) (s : Settings) → IsInput words.now (D.held desk.old) text s → IsOutcome result.status → result.status ≡ (outcome_of s.world s.step text).status }
     ensures completes { (text : List ℕ) (s : Settings) → IsInput words.now (D.held desk.old) text s → (D.input desk.new).faults ≡ 0 → HasNoFault (D.ports desk.new) →
-        (result.status ≡ (outcome_of s.step text).status) ⊎ (result.status ≡ Status.NoMemory) }
+        (result.status ≡ (outcome_of s.world s.step text).status) ⊎ (result.status ≡ Status.NoMemory) }
 
     // A demo reads nothing, and where nothing fails and memory is there it is done; where memory runs out, it has written nothing.
     ensures demo_completes { (size seed : ℕ) (plan : Plan) → Reads words.now (MakeDemo size seed plan) → HasNoFault (D.ports desk.new) →
@@ -57,13 +57,13 @@ pub fn stuff<R: Threads + Sync, D: Desk + Send, G: Gate + Sync>(
     ensures demo_untouched { (size seed : ℕ) (plan : Plan) → Reads words.now (MakeDemo size seed plan) → result.status ≡ Status.NoMemory → KeepsPorts (D.ports desk.old) (D.ports desk.new) }
 
     // What is read of a told input.
-    ensures read { (text : List ℕ) (s : Settings) → IsInput words.now (D.held desk.old) text s → IsOutcome result.status → IsLeft text (outcome_of s.step text).taken (D.input desk.new).left }
-    ensures read_whole { (port : Port) → result.status ≡ Status.WriteFault port → (text : List ℕ) (s : Settings) → IsInput words.now (D.held desk.old) text s → Accepts s.step text (D.input desk.new).left }
+    ensures read { (text : List ℕ) (s : Settings) → IsInput words.now (D.held desk.old) text s → IsOutcome result.status → IsLeft text (outcome_of s.world s.step text).taken (D.input desk.new).left }
+    ensures read_whole { (port : Port) → result.status ≡ Status.WriteFault port → (text : List ℕ) (s : Settings) → IsInput words.now (D.held desk.old) text s → Accepts s.world s.step text (D.input desk.new).left }
     ensures breaks_off { result.status ≡ Status.ReadFault → (text : List ℕ) (s : Settings) → IsInput words.now (D.held desk.old) text s →
-        ((D.input desk.new).is_open ≡ false) ⊎ BreaksOff s.step text (D.input desk.new).left }
+        ((D.input desk.new).is_open ≡ false) ⊎ BreaksOff s.world s.step text (D.input desk.new).left }
 
     // No output is used before a told input was read whole and is one that is not refused.
-    ensures accepted { (text : List ℕ) (s : Settings) → IsInput words.now (D.held desk.old) text s → KeepsPorts (D.ports desk.old) (D.ports desk.new) ⊎ Accepts s.step text (D.input desk.new).left }
+    ensures accepted { (text : List ℕ) (s : Settings) → IsInput words.now (D.held desk.old) text s → KeepsPorts (D.ports desk.old) (D.ports desk.new) ⊎ Accepts s.world s.step text (D.input desk.new).left }
 
     // What stands on the ports.
     ensures written { result.status ≡ Status.Done → (c : Meaning) → Reads words.now c → HasWritten D.ports (has_files c) (file_name words.now c) (IsTextFor (D.held desk.old) words.now c) desk.old desk.new }

@@ -1,6 +1,6 @@
-ghost use Rattle.std.specs.Prelude.{◌≡◌, ◌≢◌, ◌+◌, ◌<◌, ◌≤◌, ◌^◌, ◌++◌, [], List, ℕ, length, decimal, true};
+ghost use Rattle.std.specs.Prelude.{◌≡◌, ◌≢◌, ◌+◌, ◌<◌, ◌≤◌, ◌^◌, ◌++◌, [], List, ℕ, length, codes, decimal, true};
 ghost use Rattle.arrayvec.specs.ArrayVec.{array_vec_len};
-ghost use Rattle.formats.specs.Faults.{head_fault_text, key_text, port_text, status_text, trouble_text, fault_line as fault_line_lem};
+ghost use Rattle.formats.specs.Faults.{head_fault_text, key_text, port_text, status_text, trouble_text, verdict_text, fault_line as fault_line_lem};
 ghost use Rattle.formats.specs.declared.Port.{Port};
 ghost use Rattle.formats.specs.declared.Port.TheVariants.{Trouble};
 ghost use Rattle.formats.specs.declared.Status.TheVariants.{Done, Truncated};
@@ -11,7 +11,7 @@ ghost use Rattle.std.specs.Io.KnownBytes.{Appends};
 use arrayvec::ArrayVec;
 use itoa::Buffer;
 use node_ele_write::put_all;
-use st_base::{Desk, HeadFault, Key, Port, Status};
+use st_base::{Desk, HeadFault, Key, Port, Status, Verdict};
 
 /// The longest line has 69 bytes.
 const ROOM: usize = 96;
@@ -55,6 +55,8 @@ fn port_name(port: Port) -> &'static [u8]
         Port::Ele => b"ele",
         Port::Report => b"report",
         Port::Trouble => b"trouble",
+        Port::Face => b"face",
+        Port::Neigh => b"neigh",
     }
 }
 
@@ -72,6 +74,8 @@ fn key_name(key: Key) -> &'static [u8]
         Key::DimSize => b"DimSize",
         Key::ElementType => b"ElementType",
         Key::DataFile => b"ElementDataFile",
+        Key::Spacing => b"ElementSpacing",
+        Key::Offset => b"Offset",
     }
 }
 
@@ -85,16 +89,33 @@ fn add_key(line: &mut Line, wrong: &[u8], key: Key)
     add(line, key_name(key));
 }
 
+// What is wrong with a port.
+fn add_port(line: &mut Line, wrong: &[u8], port: Port)
+    requires { length line.old.items + length wrong.now + 7 ≤ ROOM }
+    ensures text { line.new.items ≡ line.old.items ++ (wrong.now ++ port_text port) }
+    ensures length { length line.new.items ≤ length line.old.items + length wrong.now + 7 }
+{
+    add(line, wrong);
+    add(line, port_name(port));
+}
+
+// A text, and then a number.
+fn add_counted(line: &mut Line, text: &[u8], number: u64)
+    requires { length line.old.items + length text.now + 20 ≤ ROOM }
+    ensures text { line.new.items ≡ line.old.items ++ (text.now ++ decimal number) }
+    ensures length { length line.new.items ≤ length line.old.items + length text.now + 20 }
+{
+    add(line, text);
+    add_number(line, number);
+}
+
 fn add_header_fault(line: &mut Line, fault: HeadFault)
     requires { length line.old.items ≤ 7 }
     ensures text { line.new.items ≡ line.old.items ++ head_fault_text fault }
     ensures length { length line.new.items < ROOM }
 {
     match fault {
-        HeadFault::BadLine { place } => {
-            add(line, b"bad header line at byte ");
-            add_number(line, place);
-        }
+        HeadFault::BadLine { place } => add_counted(line, b"bad header line at byte ", place),
         HeadFault::Missing { key } => add_key(line, b"header key missing: ", key),
         HeadFault::BadValue { key } => add_key(line, b"bad header value: ", key),
         HeadFault::Unsupported { key } => add_key(line, b"unsupported: ", key),
@@ -117,6 +138,20 @@ fn add_truncated(line: &mut Line, got: u64, wanted: u64)
     add(line, b" bytes");
 }
 
+// The tetrahedron that a verdict names.
+fn add_verdict(line: &mut Line, verdict: Verdict)
+    requires { length line.old.items ≤ 7 }
+    ensures text { line.new.items ≡ line.old.items ++ (codes "not sound: tetrahedron " ++ verdict_text verdict) }
+    ensures length { length line.new.items < ROOM }
+{
+    match verdict {
+        Verdict::NotPositive { tet } | Verdict::Crowded { tet } | Verdict::Turned { tet } => {
+            add_counted(line, b"not sound: tetrahedron ", u64::from(tet));
+        }
+        Verdict::Sound { .. } => add(line, b"not sound: tetrahedron "),
+    }
+}
+
 fn add_status(line: &mut Line, status: Status)
     requires { length line.old.items ≤ 7 }
     ensures text { line.new.items ≡ line.old.items ++ status_text status }
@@ -124,10 +159,7 @@ fn add_status(line: &mut Line, status: Status)
 {
     match status {
         Status::Done => {}
-        Status::BadWords { place } => {
-            add(line, b"bad words at ");
-            add_number(line, place);
-        }
+        Status::BadWords { place } => add_counted(line, b"bad words at ", place),
         Status::BadHeader { fault } => add_header_fault(line, fault),
         Status::Unsupported { key } => add_key(line, b"unsupported: ", key),
         Status::TooLarge { padded } => {
@@ -136,11 +168,11 @@ fn add_status(line: &mut Line, status: Status)
         }
         Status::Truncated { got, wanted } => add_truncated(line, got, wanted),
         Status::ReadFault => add(line, b"read fault"),
-        Status::WriteFault { port } => {
-            add(line, b"write fault: ");
-            add(line, port_name(port));
-        }
+        Status::WriteFault { port } => add_port(line, b"write fault: ", port),
         Status::NoMemory => add(line, b"no memory"),
+        Status::TooManyTets { tets } => add_counted(line, b"too many tetrahedra: ", tets),
+        Status::BadMesh { file, .. } => add_port(line, b"bad mesh file: ", file),
+        Status::NotSound { verdict } => add_verdict(line, verdict),
     }
 }
 

@@ -9,12 +9,14 @@ use std::thread::Threads;
 // Words, head, samples, the status, how many files are made, Node, Ele, the report, and the line of trouble. The input
 // is named `a`, and a second file of that name is passed over.
 const ANSWERS: &[u8] = b"\
-mesh a out level=0.5 | plain | 01 | 0 | 2 | 15 3 0 0;.. | 24 4 0;.. | nodes 15;tetrahedra 24;least +1/4 tetrahedron 0 edge 1 7;greatest 0/1 tetrahedron 0 edge 0 7; |
-mesh a out level=1 | plain | 01 | 0 | 2 | 0 3 0 0; | 0 4 0; | nodes 0;tetrahedra 0;no tetrahedra; |
+mesh a out level=0.5 | plain | 01 | 0 | 2 | 15 3 0 1;.. | 24 4 0;.. | nodes 15;tetrahedra 24;least +1/4 tetrahedron 0 edge 1 7;greatest 0/1 tetrahedron 0 edge 0 7; |
+mesh a out level=0.5 first=1 units=world | NDims = 3;DimSize = 1 1 1;ElementType = MET_UCHAR;ElementSpacing = 0.5 0.5 2;Offset = 10 -20 0.25;ElementDataFile = LOCAL; | 01 | 0 | 2 | 15 3 0 1;1 10.0000000000000000000000000000000 -20.0000000000000000000000000000000 -0.7500000000000000000000000000000 1;.. | 24 4 0;1 1 2 3 8;2 1 2 8 4;.. | nodes 15;tetrahedra 24;least +1/4 tetrahedron 1 edge 2 8;greatest 0/1 tetrahedron 1 edge 1 8; |
+mesh a out level=1 | plain | 01 | 0 | 2 | 0 3 0 1; | 0 4 0; | nodes 0;tetrahedra 0;no tetrahedra; |
 count a level=0.5 | plain | 01 | 0 | 0 | | | plus 1 zero 0 minus 34; |
 demo size=2 seed=7 | plain | 01 | 0 | 0 | | | plus 0 zero 0 minus 91;nodes 0;tetrahedra 0;no tetrahedra; |
 mesh a out | plain | 01 | 2 | 0 | | | | stuff: bad words at 3;
 mesh a out level=0.5 | MET_UCHAR 2 1 1 | 01 | 6 | 0 | | | | stuff: truncated: 1 of 2 bytes;
+mesh a out level=0.5 units=world | NDims = 3;DimSize = 1 1 1;ElementType = MET_UCHAR;ElementSpacing = 1000 1 1;ElementDataFile = LOCAL; | 01 | 4 | 0 | | | | stuff: unsupported: ElementSpacing;
 mesh b out level=0.5 | plain | 01 | 7 | 0 | | | | stuff: read fault;
 ";
 

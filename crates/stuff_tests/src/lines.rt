@@ -19,7 +19,7 @@ count a step=2 level=0.5 | MET_UCHAR 3 1 1 | 01 00 01 | 0 | plus 2 zero 0 minus 
 count a level=0.5 | MET_SHORT 2 1 1 | 01 00 e0 b1 | 0 | plus 1 zero 0 minus 47
 count a level=0.5 | MET_UCHAR 2 2 2 | 01*8 | 0 | plus 9 zero 6 minus 76
 count a level=0.5 | MET_CHAR 2 2 2 | 02*4 fe*4 | 0 | plus 4 zero 1 minus 86
-count a level=0.5 | MET_UCHAR 126 126 254 | 00*4032504 | 0 | plus 0 zero 0 minus 8307199
+count a level=0.5 | MET_UCHAR 126 126 255 | 00*4048380 | 0 | plus 0 zero 0 minus 8339712
 count a level=0.5 | MET_UCHAR 127 1 1 | 01*127 | 0 | plus 127 zero 0 minus 1546
 count a level=0.5 | MET_UCHAR 8192 1 1 | 01*8192 | 0 | plus 8192 zero 0 minus 98326
 count a level=0.5 | MET_UCHAR 1 8192 1 | 01*8192 | 0 | plus 8192 zero 0 minus 98326
@@ -32,6 +32,10 @@ count a level=0.5 | ObjectType = Image;NDims = 3;NDims = 2;DimSize = 1~001 1;Ele
 meet a | | | 2 | stuff: bad words at 0
 mesh a | | | 2 | stuff: bad words at 2
 mesh a out level=1 level=2 | | | 2 | stuff: bad words at 4
+mesh a out level=0.5 first=2 | | | 2 | stuff: bad words at 4
+mesh a out level=0.5 units=mm | | | 2 | stuff: bad words at 4
+count a level=0.5 units=world | | | 2 | stuff: bad words at 3
+demo size=2 seed=7 first=1 | | | 2 | stuff: bad words at 3
 demo size=129 seed=7 | | | 2 | stuff: bad words at 1
 demo seed=7 | | | 2 | stuff: bad words at 2
 count _ | | | 2 | stuff: bad words at 1
@@ -65,6 +69,9 @@ count a level=0.5 | NDims = 3;DimSize = 1000000000 1 1;ElementDataFile = LOCAL; 
 count a level=0.5 | NDims = 3;DimSize = 1 1 1;ElementType =;ElementDataFile = LOCAL; | | 3 | stuff: bad header value: ElementType
 count a level=0.5 | NDims = 3;CompressedData = True;DimSize = 1 1 1;ElementType =;ElementDataFile = LOCAL; | | 3 | stuff: bad header value: ElementType
 count a level=0.5 | NDims = 3;DimSize = 1 1 1;ElementType = MET_UCHAR;ElementDataFile =; | | 3 | stuff: bad header value: ElementDataFile
+mesh a out level=0.5 units=world | NDims = 3;DimSize = 1 1 1;ElementType = MET_UCHAR;ElementSpacing = 1 1;ElementDataFile = LOCAL; | | 3 | stuff: bad header value: ElementSpacing
+mesh a out level=0.5 units=world | NDims = 3;DimSize = 1 1 1;ElementType = MET_UCHAR;ElementSpacing = 1 1 x;Offset = 0 0;ElementDataFile = LOCAL; | | 3 | stuff: bad header value: ElementSpacing
+mesh a out level=0.5 units=world | NDims = 3;DimSize = 1 1 1;ElementType = MET_UCHAR;Offset = 0 0;ElementSpacing = 0 1 1;ElementDataFile = LOCAL; | | 3 | stuff: bad header value: Offset
 count a level=0.5 | ObjectType = Tube;NDims = 2;DimSize = 1 1;ElementType = MET_UCHAR;ElementDataFile = LOCAL; | | 4 | stuff: unsupported: ObjectType
 count a level=0.5 | NDims = 2;DimSize = 1 1;ElementType = MET_UCHAR;ElementDataFile = LOCAL; | | 4 | stuff: unsupported: NDims
 count a level=0.5 | NDims = 3;BinaryData = False;DimSize = 1 1 1;ElementType = MET_UCHAR;ElementDataFile = LOCAL; | | 4 | stuff: unsupported: BinaryData
@@ -73,7 +80,9 @@ count a level=0.5 | NDims = 3;CompressedData = True;DimSize = 1 1 1;ElementType 
 count a level=0.5 | NDims = 3;ElementNumberOfChannels = 3;DimSize = 1 1 1;ElementType = MET_UCHAR;ElementDataFile = LOCAL; | | 4 | stuff: unsupported: ElementNumberOfChannels
 count a level=0.5 | NDims = 3;DimSize = 1 1 1;ElementType = MET_FLOAT;ElementDataFile = LOCAL; | | 4 | stuff: unsupported: ElementType
 count a level=0.5 | NDims = 3;DimSize = 1 1 1;ElementType = MET_UCHAR;ElementDataFile = one.raw; | | 4 | stuff: unsupported: ElementDataFile
-count a level=0.5 | MET_UCHAR 126 126 255 | | 5 | stuff: too large: 4210688
+mesh a out level=0.5 units=world | NDims = 3;DimSize = 1 1 1;ElementType = MET_UCHAR;ElementSpacing = 0 1 1;ElementDataFile = LOCAL; | | 4 | stuff: unsupported: ElementSpacing
+mesh a out level=0.5 units=world | NDims = 3;DimSize = 1 1 1;ElementType = MET_UCHAR;Offset = 1e-3 0 0;ElementDataFile = LOCAL; | | 4 | stuff: unsupported: Offset
+count a level=0.5 | MET_UCHAR 254 510 511 | | 5 | stuff: too large: 67239936
 count a level=0.5 | MET_INT 8193 1 1 | | 5 | stuff: too large: 73755
 count a level=0.5 | MET_UCHAR 999999999 999999999 999999999 | | 5 | stuff: too large: 1000000003000000003000000001
 count a step=64 level=0.5 | MET_UINT 8192 8192 8192 | | 6 | stuff: truncated: 0 of 2199023255552 bytes

@@ -4,33 +4,33 @@ ghost use Rattle.slab_work.specs.Surveyed.{AreKept};
 
 use bcc_lattice::vertex_count;
 use command_line::Plan;
-use phantom::phantom;
-use samples::{Field, Level};
+use samples::Field;
 use slab_work::{Survey, emit_nodes, emit_tets, source_of, survey};
+use small_images::{one_sample, phantom_field};
 use snap_rule::Shares;
-use st_base::{Dims, Kind, OpenGate, Tally, Volume};
+use st_base::{Frame, OpenGate, Tally};
 use std::alloc::Global;
 use std::test::*;
 use std::thread::Threads;
 
 // The lines of the nodes of one sample above the level, slab by slab of two layers.
-const FIRST_NODES: &str = "0 0.0000000000000 0.0000000000000 -0.5000000000000
-1 -0.2857666015625 -0.2857666015625 -0.2857666015625
-2 0.2857666015625 -0.2857666015625 -0.2857666015625
-3 -0.2857666015625 0.2857666015625 -0.2857666015625
-4 0.2857666015625 0.2857666015625 -0.2857666015625
+const FIRST_NODES: &str = "0 0.0000000000000 0.0000000000000 -0.5000000000000 1
+1 -0.2857666015625 -0.2857666015625 -0.2857666015625 1
+2 0.2857666015625 -0.2857666015625 -0.2857666015625 1
+3 -0.2857666015625 0.2857666015625 -0.2857666015625 1
+4 0.2857666015625 0.2857666015625 -0.2857666015625 1
 ";
 
-const OTHER_NODES: &str = "5 0.0000000000000 -0.5000000000000 0.0000000000000
-6 -0.5000000000000 0.0000000000000 0.0000000000000
-7 0.0000000000000 0.0000000000000 0.0000000000000
-8 0.5000000000000 0.0000000000000 0.0000000000000
-9 0.0000000000000 0.5000000000000 0.0000000000000
-10 -0.2857666015625 -0.2857666015625 0.2857666015625
-11 0.2857666015625 -0.2857666015625 0.2857666015625
-12 -0.2857666015625 0.2857666015625 0.2857666015625
-13 0.2857666015625 0.2857666015625 0.2857666015625
-14 0.0000000000000 0.0000000000000 0.5000000000000
+const OTHER_NODES: &str = "5 0.0000000000000 -0.5000000000000 0.0000000000000 1
+6 -0.5000000000000 0.0000000000000 0.0000000000000 1
+7 0.0000000000000 0.0000000000000 0.0000000000000 0
+8 0.5000000000000 0.0000000000000 0.0000000000000 1
+9 0.0000000000000 0.5000000000000 0.0000000000000 1
+10 -0.2857666015625 -0.2857666015625 0.2857666015625 1
+11 0.2857666015625 -0.2857666015625 0.2857666015625 1
+12 -0.2857666015625 0.2857666015625 0.2857666015625 1
+13 0.2857666015625 0.2857666015625 0.2857666015625 1
+14 0.0000000000000 0.0000000000000 0.5000000000000 1
 ";
 
 // Those of its tetrahedra.
@@ -62,31 +62,17 @@ const OTHER_TETS: &str = "16 5 7 10 11
 23 7 12 14 13
 ";
 
+// Those with which the texts begin where nodes and tetrahedra are numbered from 1.
+const FROM_ONE_NODES: &str = "1 0.0000000000000 0.0000000000000 -0.5000000000000 1
+2 -0.2857666015625 -0.2857666015625 -0.2857666015625 1
+";
+
+const FROM_ONE_TETS: &str = "1 1 2 3 8
+2 1 2 8 4
+";
+
 // Numbers of workers, and of double layers of a slab.
 const PLANS: [(u32, u32); 6] = [(1, 1), (2, 1), (3, 1), (64, 1), (2, 3), (3, 64)];
-
-// One sample of 1, at a level of a half.
-fn one_sample(alloc: Global) -> Option<Field> {
-    let Ok(samples) = Vec::from_slice(alloc, &[1]) else {
-        return None;
-    };
-    let dims = Dims {
-        nx: 1,
-        ny: 1,
-        nz: 1,
-    };
-    let volume = Volume::new(dims, 1, Kind::Short, samples);
-    let level = Level::new(1)?;
-    Field::new(alloc, &volume, level, false).ok()
-}
-
-fn phantom_field(alloc: Global) -> Option<Field> {
-    let Ok(volume) = phantom(alloc, 5, 7) else {
-        return None;
-    };
-    let level = Level::new(399)?;
-    Field::new(alloc, &volume, level, false).ok()
-}
 
 fn plan_of(workers: u32, slab: u32) -> Option<Plan>
     ensures { IfSome result IsPlan }
@@ -124,23 +110,29 @@ fn texts<R: Threads + Sync>(
     alloc: Global,
     survey: &Survey,
     plan: Plan,
+    numbering: u32,
 ) -> Option<(Vec<u8>, Vec<u8>)>
     requires plan { IsPlan plan }
+    requires numbering { numbering ≤ 1 }
     requires sizes { AreKept 1 survey.now.subject.field.dims }
 {
     let slabs = source_of(survey).slabs();
     let mut nodes = Vec::new(alloc);
     let mut tets = Vec::new(alloc);
     let mut first = 0u32;
+    let frame = Frame {
+        step: 1,
+        world: None,
+    };
     for _ in 0..slabs {
         if first >= slabs {
             return Some((nodes, tets));
         }
-        let parts = emit_nodes(rt, alloc, survey, 1, plan, &OpenGate, first).ok()?;
+        let parts = emit_nodes(rt, alloc, survey, frame, numbering, plan, &OpenGate, first).ok()?;
         for part in parts.as_slice() {
             nodes.extend_from_slice(&part.text).ok()?;
         }
-        let parts = emit_tets(rt, alloc, survey, 1, plan, &OpenGate, first).ok()?;
+        let parts = emit_tets(rt, alloc, survey, frame, numbering, plan, &OpenGate, first).ok()?;
         for part in parts.as_slice() {
             tets.extend_from_slice(&part.text).ok()?;
         }
@@ -155,15 +147,17 @@ fn texts_of<R: Threads + Sync>(
     alloc: Global,
     field: &Field,
     plan: Plan,
+    numbering: u32,
 ) -> Option<(Vec<u8>, Vec<u8>)>
-    requires { IsPlan plan }
+    requires plan { IsPlan plan }
+    requires numbering { numbering ≤ 1 }
 {
     let dims = field.dims();
     if dims.nx > 8 || dims.ny > 8 || dims.nz > 8 {
         return None;
     }
     let survey = survey_of(rt, alloc, field, plan)?;
-    texts(rt, alloc, &survey, plan)
+    texts(rt, alloc, &survey, plan, numbering)
 }
 
 #[test]
@@ -176,7 +170,7 @@ fn one_sample_has_these_lines_whoever_makes_them(rt: HostRuntime) {
         let Some(plan) = plan_of(workers, slab) else {
             panic!(rt; "no plan")
         };
-        let Some((nodes, tets)) = texts_of(&rt, alloc, &field, plan) else {
+        let Some((nodes, tets)) = texts_of(&rt, alloc, &field, plan, 0) else {
             panic!(rt; "no memory")
         };
         let (first, other) = nodes.split_at(FIRST_NODES.len().min(nodes.len()));
@@ -189,12 +183,27 @@ fn one_sample_has_these_lines_whoever_makes_them(rt: HostRuntime) {
 }
 
 #[test]
-fn noise_has_the_same_lines_whoever_makes_them(rt: HostRuntime) {
+fn lines_are_numbered_from_1(rt: HostRuntime) {
     let alloc = rt.alloc();
-    let (Some(field), Some(single)) = (phantom_field(alloc), plan_of(1, 1)) else {
+    let (Some(field), Some(plan)) = (one_sample(alloc), plan_of(2, 1)) else {
         panic!(rt; "no field")
     };
-    let Some((nodes, tets)) = texts_of(&rt, alloc, &field, single) else {
+    let Some((nodes, tets)) = texts_of(&rt, alloc, &field, plan, 1) else {
+        panic!(rt; "no memory")
+    };
+    let (first, _) = nodes.split_at(FROM_ONE_NODES.len().min(nodes.len()));
+    assert_eq!(rt; first, FROM_ONE_NODES.as_bytes());
+    let (first, _) = tets.split_at(FROM_ONE_TETS.len().min(tets.len()));
+    assert_eq!(rt; first, FROM_ONE_TETS.as_bytes());
+}
+
+#[test]
+fn noise_has_the_same_lines_whoever_makes_them(rt: HostRuntime) {
+    let alloc = rt.alloc();
+    let (Some(field), Some(single)) = (phantom_field(alloc, 5), plan_of(1, 1)) else {
+        panic!(rt; "no field")
+    };
+    let Some((nodes, tets)) = texts_of(&rt, alloc, &field, single, 0) else {
         panic!(rt; "no memory")
     };
     assert!(rt; nodes.len() > 1000 && tets.len() > 1000);
@@ -202,7 +211,7 @@ fn noise_has_the_same_lines_whoever_makes_them(rt: HostRuntime) {
         let Some(plan) = plan_of(workers, slab) else {
             panic!(rt; "no plan")
         };
-        let Some(same) = texts_of(&rt, alloc, &field, plan) else {
+        let Some(same) = texts_of(&rt, alloc, &field, plan, 0) else {
             panic!(rt; "no memory")
         };
         assert_eq!(rt; same.0.as_slice(), nodes.as_slice());
@@ -220,7 +229,11 @@ fn a_round_of_one_worker(rt: HostRuntime) {
         panic!(rt; "no memory")
     };
     assert!(rt; 0 < source_of(&survey).slabs());
-    let Ok(parts) = emit_tets(&rt, alloc, &survey, 1, plan, &OpenGate, 0) else {
+    let frame = Frame {
+        step: 1,
+        world: None,
+    };
+    let Ok(parts) = emit_tets(&rt, alloc, &survey, frame, 0, plan, &OpenGate, 0) else {
         panic!(rt; "no memory")
     };
     assert_eq!(rt; parts.len(), 3);

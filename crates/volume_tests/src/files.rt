@@ -51,8 +51,22 @@ fn volume_of(alloc: Global, file: &[u8], step: u64) -> Option<Volume> {
     let mut desk = MemDesk::new(alloc);
     desk.put_input(b"a", file).ok()?;
     desk.open_input(b"a").ok()?;
-    let head = read_head(alloc, &mut desk).ok()?;
+    let head = read_head(alloc, &mut desk, false).ok()?;
     read_volume(alloc, &mut desk, &head, step as u32, &Limits::first()).ok()
+}
+
+// Volumes of the same sizes and samples.
+fn are_same(first: &Volume, second: &Volume) -> bool {
+    let (samples, others) = (first.samples(), second.samples());
+    if first.dims() != second.dims() || samples.len() != others.len() {
+        return false;
+    }
+    for n in 0..samples.len() {
+        if samples.get(n) != others.get(n) {
+            return false;
+        }
+    }
+    true
 }
 
 // Appends a line of the head.
@@ -107,7 +121,7 @@ fn writes_what_was_read(rt: HostRuntime) {
         assert_eq!(rt; text.len() as u64, len, "in {row}");
         assert_eq!(rt; text.as_slice(), wanted.as_slice(), "in {row}");
         let again = volume_of(alloc, &text, 1).expect(&rt, "a volume");
-        assert!(rt; again.samples() == volume.samples(), "in {row}");
+        assert!(rt; are_same(&again, &volume), "in {row}");
     }
 }
 
@@ -117,7 +131,7 @@ fn large_volumes_are_read_back(rt: HostRuntime) {
     let volume = phantom(alloc, 128, 7).expect(&rt, "memory");
     let text = mha_text(alloc, &volume).expect(&rt, "memory");
     let again = volume_of(alloc, &text, 1).expect(&rt, "a volume");
-    assert!(rt; again.samples() == volume.samples());
+    assert!(rt; are_same(&again, &volume));
 }
 
 // A file of one sample with a line that stands some times in front.
@@ -144,7 +158,8 @@ fn long_heads_are_read(rt: HostRuntime) {
         let (len, times) = field(row);
         let file = long_head(alloc, number(len), number(times)).expect(&rt, "memory");
         let volume = volume_of(alloc, &file, 1).expect(&rt, "a volume");
-        assert_eq!(rt; volume.samples(), [1].as_slice(), "of {row}");
+        assert_eq!(rt; volume.samples().len(), 1, "of {row}");
+        assert_eq!(rt; volume.samples().get(0), 1, "of {row}");
     }
 }
 

@@ -27,21 +27,36 @@ mesh a out level=1 slab=04 | 4
 mesh a out level=1 long=1024 | 4
 mesh a out level=1 short=2048 | 4
 mesh a out level=1 below=no | 4
+mesh a out level=0.5 first=2 | 4
+mesh a out level=0.5 first=01 | 4
+mesh a out level=0.5 first=-1 | 4
+mesh a out first=1 first=1 level=0.5 | 4
+mesh a out level=0.5 units=mm | 4
+mesh a out level=0.5 units= | 4
+mesh a out level=0.5 units=world first=0 units=world | 6
+mesh a out units=index first=1 | 5
 mesh a out short=2047 | 4
 mesh a b slab=65 | 3
 mesh a out long=1023 short=2047 slab=9 level=1e3 | 6
 mesh a out level=3750510981.5 long=0 a | 5
 count slab=65 a level=-0.5 | 2
+count a level=0.5 first=1 | 3
+count a level=0.5 units=index | 3
 demo size=129 seed=7 | 1
 demo seed=7 | 2
 demo size=1 seed=7 level=1 | 3
-demo size=1 seed=18446744073709551616 | 2";
+demo size=1 seed=18446744073709551616 | 2
+demo size=2 seed=7 units=world | 3
+demo size=2 first=0 seed=7 | 2";
 
 // Words, and what they say.
 const COMMANDS: &str =
-    "mesh a out level=1 | input 1, twice 2, below false, step 1, output 2, long 1023, short 1687, workers 4, slab 4
-mesh a out level=1 long=0 short=0 workers=64 slab=64 step=64 below=yes | input 1, twice 2, below true, step 64, output 2, long 0, short 0, workers 64, slab 64
-mesh level=2 step=3 slab=1 workers=64 short=2047 long=1023 level=10.0 | input 1, twice 20, below false, step 1, output 2, long 1023, short 2047, workers 64, slab 1
+    "mesh a out level=1 | input 1, twice 2, below false, step 1, output 2, long 1023, short 1687, workers 4, slab 4, first 0, world false
+mesh a out level=1 long=0 short=0 workers=64 slab=64 step=64 below=yes | input 1, twice 2, below true, step 64, output 2, long 0, short 0, workers 64, slab 64, first 0, world false
+mesh level=2 step=3 slab=1 workers=64 short=2047 long=1023 level=10.0 | input 1, twice 20, below false, step 1, output 2, long 1023, short 2047, workers 64, slab 1, first 0, world false
+mesh a out level=1 first=1 units=world | input 1, twice 2, below false, step 1, output 2, long 1023, short 1687, workers 4, slab 4, first 1, world true
+mesh a out units=world workers=2 first=1 level=1 slab=3 | input 1, twice 2, below false, step 1, output 2, long 1023, short 1687, workers 2, slab 3, first 1, world true
+mesh a out first=0 level=-1 units=index | input 1, twice -2, below false, step 1, output 2, long 1023, short 1687, workers 4, slab 4, first 0, world false
 count a step=2 level=199.5 | input 1, twice 399, below false, step 2
 demo seed=7 slab=1 size=128 | size 128, seed 7, twice 399, below false, step 1";
 
@@ -78,12 +93,14 @@ fn told(alloc: Global, command: &Command) -> Result<String, AllocError> {
     let mesh = match command.mesh() {
         None => String::new(alloc),
         Some(mesh) => format!(in alloc;
-            ", output {}, long {}, short {}, workers {}, slab {}",
+            ", output {}, long {}, short {}, workers {}, slab {}, first {}, world {}",
             mesh.output,
             mesh.shares.share(true),
             mesh.shares.share(false),
             mesh.plan.workers,
-            mesh.plan.slab
+            mesh.plan.slab,
+            mesh.numbering,
+            mesh.world
         )?,
     };
     format!(in alloc;

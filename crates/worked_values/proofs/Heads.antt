@@ -6,14 +6,15 @@ use Rattle.formats.specs.declared.Key.TheVariants.{ObjectType, NDims, BinaryData
 use Rattle.formats.specs.declared.HeadFault.{HeadFault}
 use Rattle.formats.specs.declared.HeadFault.TheVariants.{BadLine, Missing, BadValue, Unsupported, HeaderTooLong, HeadEnds}
 use Rattle.formats.specs.HeadLines.{pairs_of}
+use Rattle.formats.specs.Frames.{unit_axes}
 use Rattle.formats.specs.Heads.{HeadAt, head_of, head_of_pairs, form_fault, refusal}
 
 abbrev good : ℕ → ℕ → ℕ → Kind → Bool → ℕ → HeadAt
-good a b c kind big len = record { head = record { raw = a ∷ b ∷ c ∷ []; kind = kind; big = big }; len = len }
+good a b c kind big len = record { head = record { raw = a ∷ b ∷ c ∷ []; kind = kind; big = big; axes = unit_axes }; len = len }
 
 -- what is read of each text is what stands beside it
 abbrev AreRead : List (List ℕ × Result HeadAt HeadFault) → Type 0
-AreRead rows = map (λ (row : List ℕ × Result HeadAt HeadFault). head_of row.0) rows ≡ map (λ (row : List ℕ × Result HeadAt HeadFault). row.1) rows
+AreRead rows = map (λ (row : List ℕ × Result HeadAt HeadFault). head_of false row.0) rows ≡ map (λ (row : List ℕ × Result HeadAt HeadFault). row.1) rows
 
 -- heads without a fault
 pub heads_that_are_read :

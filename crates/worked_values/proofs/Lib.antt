@@ -1,5 +1,6 @@
 pub mod AllOpen
 pub mod Heads
+pub mod HeadsInUnits
 pub mod HeadEnds
 pub mod Volumes
 pub mod Statuses

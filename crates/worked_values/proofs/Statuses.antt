@@ -4,17 +4,19 @@ use Rattle.std.specs.Prelude.{◌≡◌, ℕ, List, [], ◌∷◌, map, codes, r
 use Rattle.std.specs.Fmt.{digits}
 use Rattle.formats.specs.declared.HeadFault.TheVariants.{BadLine, Missing, BadValue, HeaderTooLong, HeadEnds}
 use Rattle.formats.specs.declared.Key.{Key}
-use Rattle.formats.specs.declared.Key.TheVariants.{ObjectType, NDims, BinaryData, CompressedData, Channels, DimSize, ElementType, DataFile}
-use Rattle.formats.specs.declared.Port.TheVariants.{Node, Ele, Report}
+use Rattle.formats.specs.declared.Key.TheVariants.{ObjectType, NDims, BinaryData, CompressedData, Channels, DimSize, ElementType, DataFile, Spacing, Offset}
+use Rattle.formats.specs.declared.Port.TheVariants.{Node, Ele, Report, Face, Neigh}
 use Rattle.formats.specs.declared.Status.{Status}
-use Rattle.formats.specs.declared.Status.TheVariants.{Done, BadWords, BadHeader, Unsupported, TooLarge, Truncated, ReadFault, WriteFault, NoMemory}
+use Rattle.formats.specs.declared.Status.TheVariants.{Done, BadWords, BadHeader, Unsupported, TooLarge, Truncated, ReadFault, WriteFault, NoMemory, TooManyTets, BadMesh, NotSound}
+use Rattle.formats.specs.declared.MeshFault.TheVariants.{TooLong, BadLine as BadMeshLine, BadPlace, BadNode, EndsEarly}
+use Rattle.formats.specs.declared.Verdict.TheVariants.{NotPositive, Crowded, Turned}
 use Rattle.formats.specs.Faults.{status_code, trouble_text}
 
 abbrev told : List Status → List (ℕ × List ℕ)
 told statuses = map (λ s. (status_code s, trouble_text s)) statuses
 
 abbrev some_keys : List Key
-some_keys = ObjectType ∷ NDims ∷ BinaryData ∷ CompressedData ∷ Channels ∷ DimSize ∷ ElementType ∷ DataFile ∷ []
+some_keys = ObjectType ∷ NDims ∷ BinaryData ∷ CompressedData ∷ Channels ∷ DimSize ∷ ElementType ∷ DataFile ∷ Spacing ∷ Offset ∷ []
 
 pub missing :
     told (map (λ k. BadHeader (Missing k)) some_keys)
@@ -26,6 +28,8 @@ pub missing :
     ∷ (3, codes "stuff: header key missing: DimSize\n")
     ∷ (3, codes "stuff: header key missing: ElementType\n")
     ∷ (3, codes "stuff: header key missing: ElementDataFile\n")
+    ∷ (3, codes "stuff: header key missing: ElementSpacing\n")
+    ∷ (3, codes "stuff: header key missing: Offset\n")
     ∷ []
 unfolding digits
 missing = refl
@@ -40,6 +44,8 @@ pub bad_values :
     ∷ (3, codes "stuff: bad header value: DimSize\n")
     ∷ (3, codes "stuff: bad header value: ElementType\n")
     ∷ (3, codes "stuff: bad header value: ElementDataFile\n")
+    ∷ (3, codes "stuff: bad header value: ElementSpacing\n")
+    ∷ (3, codes "stuff: bad header value: Offset\n")
     ∷ []
 unfolding digits
 bad_values = refl
@@ -54,6 +60,8 @@ pub unsupported :
     ∷ (4, codes "stuff: unsupported: DimSize\n")
     ∷ (4, codes "stuff: unsupported: ElementType\n")
     ∷ (4, codes "stuff: unsupported: ElementDataFile\n")
+    ∷ (4, codes "stuff: unsupported: ElementSpacing\n")
+    ∷ (4, codes "stuff: unsupported: Offset\n")
     ∷ []
 unfolding digits
 unsupported = refl
@@ -68,10 +76,12 @@ unfolding digits
 other_heads = refl
 
 pub write_faults :
-    told (WriteFault Node ∷ WriteFault Ele ∷ WriteFault Report ∷ [])
+    told (WriteFault Node ∷ WriteFault Ele ∷ WriteFault Report ∷ WriteFault Face ∷ WriteFault Neigh ∷ [])
     ≡ (8, codes "stuff: write fault: node\n")
     ∷ (8, codes "stuff: write fault: ele\n")
     ∷ (8, codes "stuff: write fault: report\n")
+    ∷ (8, codes "stuff: write fault: face\n")
+    ∷ (8, codes "stuff: write fault: neigh\n")
     ∷ []
 unfolding digits
 write_faults = refl
@@ -87,3 +97,27 @@ pub others :
     ∷ []
 unfolding digits
 others = refl
+
+pub too_many : told (TooManyTets 33554433 ∷ []) ≡ (10, codes "stuff: too many tetrahedra: 33554433\n") ∷ []
+unfolding digits
+too_many = refl
+
+pub bad_files :
+    told (BadMesh Node (BadMeshLine 0) ∷ BadMesh Node (BadPlace 8) ∷ BadMesh Node TooLong ∷ BadMesh Ele (BadNode 6) ∷ BadMesh Ele (EndsEarly 0 1) ∷ [])
+    ≡ (11, codes "stuff: bad mesh file: node\n")
+    ∷ (11, codes "stuff: bad mesh file: node\n")
+    ∷ (11, codes "stuff: bad mesh file: node\n")
+    ∷ (11, codes "stuff: bad mesh file: ele\n")
+    ∷ (11, codes "stuff: bad mesh file: ele\n")
+    ∷ []
+unfolding digits
+bad_files = refl
+
+pub not_sound :
+    told (NotSound (NotPositive 0) ∷ NotSound (Crowded 17) ∷ NotSound (Turned 4294967295) ∷ [])
+    ≡ (12, codes "stuff: not sound: tetrahedron 0\n")
+    ∷ (12, codes "stuff: not sound: tetrahedron 17\n")
+    ∷ (12, codes "stuff: not sound: tetrahedron 4294967295\n")
+    ∷ []
+unfolding digits
+not_sound = refl

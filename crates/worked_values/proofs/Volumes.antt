@@ -4,13 +4,14 @@ use Rattle.std.specs.Prelude.{◌≡◌, ℕ, Bool, true, false, List, [], ◌�
 use Rattle.definitions.specs.Lattice.{dims}
 use Rattle.formats.specs.declared.Kind.{Kind}
 use Rattle.formats.specs.declared.Kind.TheVariants.{Uchar, Char, Ushort, Short, Uint, Int}
+use Rattle.formats.specs.Frames.{unit_axes}
 use Rattle.formats.specs.Heads.{HeadAt}
 use Rattle.formats.specs.Samples.{sample_number}
-use Rattle.formats.specs.Volumes.{Large, EndsEarly, Whole, volume_answer, first_limits, kept_samples}
+use Rattle.formats.specs.Volumes.{Large, EndsEarly, Whole, volume_answer, first_limits, second_limits, kept_samples}
 
 -- a head of three bytes
 abbrev sizes : ℕ → ℕ → ℕ → Kind → Bool → HeadAt
-sizes nx ny nz kind big = record { head = record { raw = nx ∷ ny ∷ nz ∷ []; kind = kind; big = big }; len = 3 }
+sizes nx ny nz kind big = record { head = record { raw = nx ∷ ny ∷ nz ∷ []; kind = kind; big = big; axes = unit_axes }; len = 3 }
 
 -- 3 x 2 x 4 unsigned numbers of 16 bits, the most significant byte first: the head, a row on each line, and what follows
 abbrev ushorts_high_first : List ℕ
@@ -315,7 +316,7 @@ bytes_end_early = refl
 
 -- what is answered where nothing follows a head of sizes and a step
 abbrev empty : ℕ → ℕ → ℕ → Kind → HeadAt
-empty nx ny nz kind = record { head = record { raw = nx ∷ ny ∷ nz ∷ []; kind = kind; big = false }; len = 0 }
+empty nx ny nz kind = record { head = record { raw = nx ∷ ny ∷ nz ∷ []; kind = kind; big = false; axes = unit_axes }; len = 0 }
 
 pub width_above_the_limit : volume_answer first_limits [] (empty 8193 1 1 Int) 64 ≡ Large 1179
 width_above_the_limit = refl
@@ -346,3 +347,14 @@ product_above_the_limit_every_second = refl
 
 pub product_further_above_the_limit_every_second : volume_answer first_limits [] (empty 253 252 510 Uchar) 2 ≡ Large 4243584
 product_further_above_the_limit_every_second = refl
+
+-- the same with the higher limit
+
+pub product_within_the_second_limit : volume_answer second_limits [] (empty 126 126 255 Uchar) 1 ≡ EndsEarly 0 4048380
+product_within_the_second_limit = refl
+
+pub product_at_the_second_limit : volume_answer second_limits [] (empty 254 510 510 Uchar) 1 ≡ EndsEarly 0 66065400
+product_at_the_second_limit = refl
+
+pub product_above_the_second_limit : volume_answer second_limits [] (empty 254 510 511 Uchar) 1 ≡ Large 67239936
+product_above_the_second_limit = refl

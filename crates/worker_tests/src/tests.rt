@@ -4,38 +4,14 @@ use bcc_lattice::{Layout, vertex_count, vertex_of};
 use command_line::Plan;
 use layer_cells::Cells;
 use mesh_lists::build_mesh;
-use phantom::phantom;
-use samples::{Field, Level};
 use slab_survey::make_layer;
+use small_images::{one_sample, phantom_field};
 use snap_rule::{Shares, States, all_states};
-use st_base::{Dims, Gate, Kind, Ledger, OpenGate, Tally, Volume};
+use st_base::{Gate, Ledger, OpenGate, Tally};
 use std::alloc::Global;
 use std::sync::atomic::{AtomicBool, AtomicU64, Ordering};
 use std::test::*;
 use survey::{Survey, survey};
-
-// One sample of 1, at a level of a half: five layers of 9, 4, 9, 4 and 9 vertices.
-fn one_sample(alloc: Global) -> Option<Field> {
-    let Ok(samples) = Vec::from_slice(alloc, &[1]) else {
-        return None;
-    };
-    let dims = Dims {
-        nx: 1,
-        ny: 1,
-        nz: 1,
-    };
-    let volume = Volume::new(dims, 1, Kind::Short, samples);
-    let level = Level::new(1)?;
-    Field::new(alloc, &volume, level, false).ok()
-}
-
-fn phantom_field(alloc: Global) -> Option<Field> {
-    let Ok(volume) = phantom(alloc, 12, 7) else {
-        return None;
-    };
-    let level = Level::new(399)?;
-    Field::new(alloc, &volume, level, false).ok()
-}
 
 #[test]
 fn a_layer_is_seen_once_it_is_made(rt: HostRuntime) {
@@ -121,7 +97,7 @@ fn has_states(survey: &Survey, all: &States) -> bool
 #[test]
 fn a_survey_by_three_workers(rt: HostRuntime) {
     let alloc = rt.alloc();
-    let (Some(field), Some(shares)) = (phantom_field(alloc), Shares::new(1023, 1687)) else {
+    let (Some(field), Some(shares)) = (phantom_field(alloc, 12), Shares::new(1023, 1687)) else {
         panic!(rt; "no field")
     };
     let vertices = vertex_count(field.dims());
@@ -177,7 +153,7 @@ impl Gate for Meeting {
 #[test]
 fn two_workers_survey_at_the_same_time(rt: HostRuntime) {
     let alloc = rt.alloc();
-    let (Some(field), Some(shares)) = (phantom_field(alloc), Shares::new(1023, 1687)) else {
+    let (Some(field), Some(shares)) = (phantom_field(alloc, 12), Shares::new(1023, 1687)) else {
         panic!(rt; "no field")
     };
     let _ = vertex_count(field.dims());

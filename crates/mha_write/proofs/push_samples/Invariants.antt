@@ -3,5 +3,5 @@ use Rattle.std.specs.Int.{cast_unsigned, w64}
 use Rattle.byteorder.specs.Endian.{little_bytes}
 use Rattle.mha_write.proofs.push_samples.Given as goal
 
-abbrev pub invariant-loop-sample : goal.invariant-loop-sample
-invariant-loop-sample l = l.text.items ≡ l.initial.text.items ++ flat_map (λ z. little_bytes l.size (cast_unsigned w64 z)) (take l.sample-index l.samples)
+abbrev pub invariant-loop-n : goal.invariant-loop-n
+invariant-loop-n l = l.text.items ≡ l.initial.text.items ++ flat_map (λ z. little_bytes l.size (cast_unsigned w64 z)) (take l.n l.samples.numbers)

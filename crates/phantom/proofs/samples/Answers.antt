@@ -7,6 +7,7 @@ pub loop-row-preserved : goal.loop-row-preserved
 loop-row-preserved c =
     let rest : c.off_middle.result + c.off_middle-in-loop-row.result ≡ row_rest c.args.n c.loop-row.row = λ i. c.off_middle.ensures.value i + c.off_middle-in-loop-row.ensures.value i in
     record {
-      numbers = more_rows c.args.n c.args.seed c.loop-row.row c.loop-row.state _ _ c.loop-row.invariant.numbers c.loop-row.invariant.state (c.in_ok-push_row.ensures.numbers ∙ ap (λ (r : ℕ). c.loop-row.samples.items ++ row_samples c.args.n r c.loop-row.state c.args.n) rest);
+      kind = c.push_row.ensures.kind;
+      numbers = more_rows c.args.n c.args.seed c.loop-row.row c.loop-row.state _ _ c.loop-row.invariant.numbers c.loop-row.invariant.state (c.in_ok-push_row.ensures.numbers ∙ ap (λ (r : ℕ). c.loop-row.samples.numbers ++ row_samples c.args.n r c.loop-row.state c.args.n) rest);
       state = more_noise c.args.n c.args.seed c.loop-row.row c.loop-row.state _ c.loop-row.invariant.state c.in_ok-push_row.ensures.state;
     }

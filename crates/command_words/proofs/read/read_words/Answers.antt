@@ -1,10 +1,8 @@
 use Rattle.std.proofs.Common.{ℕ, ◌+◌, drop, sym, subst, arith, ◌∙◌}
-use Rattle.std.specs.Prelude.{IfSome}
-use Rattle.command_line.specs.Grammar.{Reads, IsBadPlace, IsPlan}
-use Rattle.command_words.specs.declared.command.Command.{Command}
-use Rattle.command_words.specs.Commands.{IsBadName, meaning_of, mesh_of}
+use Rattle.command_line.specs.Grammar.{IsBadPlace}
+use Rattle.command_words.specs.Commands.{IsBadName}
 use Rattle.command_words.specs.Settings.{IsTaken, IsStop}
-use Rattle.command_words.proofs.Places.{no_verb, bad_name_place, opened, stop_place, no_command, reads_all, long_within, short_within, size_within, step_within, step_seen, plan_within, plan_is_seen, source_seen, output_seen}
+use Rattle.command_words.proofs.Places.{no_verb, bad_name_place, opened, stop_place, no_command, reads_all, long_within, short_within, size_within, step_within, step_seen, plan_within, plan_is_seen, numbering_within, numbering_seen, source_seen, output_seen}
 use Rattle.command_words.proofs.read.read_words.Goals as goal
 
 pub returns-in_default-clause-place : goal.returns-in_default-clause-place
@@ -64,3 +62,8 @@ pub returns-in-Some-command_by-clause-plan : goal.returns-in-Some-command_by-cla
 returns-in-Some-command_by-clause-plan c =
     plan_is_seen c.in-Some.verb c.in-Ok.seen c.in-Some-command_by.command (sym c.command_by.ensures ∙ c.in-Some-command_by.is)
     (plan_within c.in-Some.verb (drop (c.file_count-files.result + 1) c.args.words.now) c.in-Ok.seen c.in-Ok.ensures.all)
+
+pub returns-in-Some-command_by-clause-numbering : goal.returns-in-Some-command_by-clause-numbering
+returns-in-Some-command_by-clause-numbering c =
+    numbering_seen c.in-Some.verb c.in-Ok.seen c.in-Some-command_by.command (sym c.command_by.ensures ∙ c.in-Some-command_by.is)
+    (numbering_within c.in-Some.verb (drop (c.file_count-files.result + 1) c.args.words.now) c.in-Ok.seen c.in-Ok.ensures.all)

@@ -6,7 +6,7 @@ use Rattle.command_line.specs.Grammar.{MakeDemo}
 use Rattle.desk_mem.specs.Meanings.{mem_input, mem_ports, mem_held}
 use Rattle.stuff.specs.Inputs.{outcome_of, settings_of, told_input, IsInput}
 use Rattle.stuff.specs.Traces.{IsFieldFor}
-use Rattle.meshed.specs.Answers.{Comes}
+use Rattle.meshed.specs.Answers.{Comes, Makes}
 use Rattle.meshed.specs.Files.{held_in}
 use Rattle.meshed.specs.Taken.{IsTaken}
 use Rattle.meshed.proofs.Making.{line_is, makes, told_is}
@@ -22,8 +22,8 @@ returns-in-Some-clause-told g c = λ d text r told.
     let same : mem_held c.in-Ok.desk ≡ held_in c.args.files.now = λ i name. c.in-Ok.ensures.held name i in
     let input : IsInput c.args.words.now (mem_held c.in-Ok.desk) text (settings_of d) =
     record { command = d; reads = r; settings = refl; told = ap (λ (held : List ℕ → Option (List ℕ)). told_input held c.args.words.now d) same ∙ told } in
-    subst (λ (s : Status). Comes s (outcome_of (settings_of d).step text).status) (sym (status_taken c.stuff-outcome.result.status c.stuff-outcome.new.desk c.in-Some.answer c.in-Some.ensures.taken))
-    (comes c.stuff-outcome.result.status (outcome_of (settings_of d).step text).status (mem_input c.stuff-outcome.new.desk) (mem_ports c.stuff-outcome.new.desk) c.stuff-outcome.ensures.read_fault c.stuff-outcome.ensures.write_fault
+    subst (λ (s : Status). Comes s (outcome_of (settings_of d).world (settings_of d).step text).status) (sym (status_taken c.stuff-outcome.result.status c.stuff-outcome.new.desk c.in-Some.answer c.in-Some.ensures.taken))
+    (comes c.stuff-outcome.result.status (outcome_of (settings_of d).world (settings_of d).step text).status (mem_input c.stuff-outcome.new.desk) (mem_ports c.stuff-outcome.new.desk) c.stuff-outcome.ensures.read_fault c.stuff-outcome.ensures.write_fault
     (λ none ports. c.stuff-outcome.ensures.completes text (settings_of d) input none ports))
 
 pub returns-in-Some-clause-demo : goal.returns-in-Some-clause-demo
@@ -37,8 +37,9 @@ returns-in-Some-clause-made g c = λ done d f r field.
     let same : mem_held c.in-Ok.desk ≡ held_in c.args.files.now = λ i name. c.in-Ok.ensures.held name i in
     let is : c.stuff-outcome.result.status ≡ Done = sym (status_taken c.stuff-outcome.result.status c.stuff-outcome.new.desk c.in-Some.answer c.in-Some.ensures.taken) ∙ done in
     let held : IsFieldFor (mem_held c.in-Ok.desk) c.args.words.now d f = subst (λ (h : List ℕ → Option (List ℕ)). IsFieldFor h c.args.words.now d f) (sym same) field in
-    makes c.args.words.now (mem_held c.in-Ok.desk) d f c.in-Ok.desk c.stuff-outcome.new.desk c.in-Some.answer c.in-Ok.ensures.start held (c.stuff-outcome.ensures.written is d r) (c.stuff-outcome.ensures.all_tried is d r)
-    (subst (λ (s : Status). IsTaken s c.stuff-outcome.new.desk c.in-Some.answer) is c.in-Some.ensures.taken) (c.stuff-outcome.ensures.sound is d r f held) (c.stuff-outcome.ensures.bounds is d r f held)
+    subst (λ (h : List ℕ → Option (List ℕ)). Makes h c.args.words.now d f c.in-Some.answer) same
+    (makes c.args.words.now (mem_held c.in-Ok.desk) d f c.in-Ok.desk c.stuff-outcome.new.desk c.in-Some.answer c.in-Ok.ensures.start held (c.stuff-outcome.ensures.written is d r) (c.stuff-outcome.ensures.all_tried is d r)
+    (subst (λ (s : Status). IsTaken s c.stuff-outcome.new.desk c.in-Some.answer) is c.in-Some.ensures.taken) (c.stuff-outcome.ensures.sound is d r f held) (c.stuff-outcome.ensures.bounds is d r f held))
 
 pub returns-in-Some-clause-trouble : goal.returns-in-Some-clause-trouble
 returns-in-Some-clause-trouble g c =

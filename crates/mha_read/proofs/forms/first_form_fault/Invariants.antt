@@ -6,6 +6,6 @@ use Rattle.mha_read.proofs.forms.first_form_fault.Given as goal
 
 abbrev pub invariant-loop-key : goal.invariant-loop-key
 invariant-loop-key l = record {
-  same : fault_from (form_fault l.pairs) l.key-index ≡ fault_from (form_fault l.pairs) 0;
+  same : fault_from l.world (form_fault l.pairs) l.key-index ≡ fault_from l.world (form_fault l.pairs) 0;
   dims : 1 < l.key-index → form_fault l.pairs NDims ≡ None;
 }

@@ -7,7 +7,8 @@ use Rattle.mha_read.proofs.samples.push_row.Given as goal
 
 abbrev pub invariant-loop-i : goal.invariant-loop-i
 invariant-loop-i l = record {
-  numbers : l.samples.items ≡ l.initial.samples.items ++ map (λ i. sample_of_bytes l.grid.kind l.grid.big l.bytes (l.first + i * l.grid.step)) (range_with_len 0 l.i);
-  low : All (λ z. least_of l.grid.kind ≤ℤ z) l.initial.samples.items → All (λ z. least_of l.grid.kind ≤ℤ z) l.samples.items;
-  high : All (λ z. z ≤ℤ greatest_of l.grid.kind) l.initial.samples.items → All (λ z. z ≤ℤ greatest_of l.grid.kind) l.samples.items;
+  kind : l.samples.kind ≡ l.initial.samples.kind;
+  numbers : l.samples.numbers ≡ l.initial.samples.numbers ++ map (λ i. sample_of_bytes l.grid.kind l.grid.big l.bytes (l.first + i * l.grid.step)) (range_with_len 0 l.i);
+  low : All (λ z. least_of l.grid.kind ≤ℤ z) l.initial.samples.numbers → All (λ z. least_of l.grid.kind ≤ℤ z) l.samples.numbers;
+  high : All (λ z. z ≤ℤ greatest_of l.grid.kind) l.initial.samples.numbers → All (λ z. z ≤ℤ greatest_of l.grid.kind) l.samples.numbers;
 }

@@ -12,7 +12,8 @@ invariant-loop g l = record {
   apart : OnlyInput g.D.Desk l.initial.desk l.desk;
   turns : l.counter ≤ l.row;
   within : l.row ≤ l.rows;
-  takes : TakesRows l.grid (g.D.Desk.input l.initial.desk).left (g.D.Desk.input l.desk).left l.row l.samples.items;
-  low : All (λ z. least_of l.grid.kind ≤ℤ z) l.samples.items;
-  high : All (λ z. z ≤ℤ greatest_of l.grid.kind) l.samples.items;
+  kind : l.samples.kind ≡ l.grid.kind;
+  takes : TakesRows l.grid (g.D.Desk.input l.initial.desk).left (g.D.Desk.input l.desk).left l.row l.samples.numbers;
+  low : All (λ z. least_of l.grid.kind ≤ℤ z) l.samples.numbers;
+  high : All (λ z. z ≤ℤ greatest_of l.grid.kind) l.samples.numbers;
 }

@@ -1,5 +1,6 @@
-use Rattle.std.proofs.Common.{◌*◌, ◌∙◌, ap, ℕ, arith}
-use Rattle.formats.specs.Volumes.{volume_answer}
+use Rattle.std.proofs.Common.{◌*◌, ◌∙◌, ap, ℕ, arith, sym, subst}
+use Rattle.formats.specs.declared.Kind.{Kind}
+use Rattle.formats.specs.Volumes.{volume_answer, IsVolume}
 use Rattle.mha_read.specs.Samples.{row_bytes}
 use Rattle.mha_read.specs.VolumeTold.{grid_in}
 use Rattle.mha_read.proofs.VolumeParts.{allowed_sizes, grid_is, rows_make, rows_wanted, told_whole, told_truncated, fewer_wanted, told_fault}
@@ -15,14 +16,16 @@ new-requires g c =
     let takes = rw c.grid_of-grid.ensures at c.in-Ok-read_samples.ensures.samples in
     let low = rw c.grid_of-grid.ensures at c.in-Ok-read_samples.ensures.low in
     let high = rw c.grid_of-grid.ensures at c.in-Ok-read_samples.ensures.high in
-    rows_make c.args.head.now c.args.step c.row_count.result c.in-Ok.sizes _ _ c.in-Ok-read_samples.samples.items c.in-Ok.ensures.sizes allowed.1 c.requires.step c.requires.step_bound c.row_count.ensures.value takes low high
+    let kind = rw c.grid_of-grid.ensures at c.in-Ok-read_samples.ensures.kind in
+    subst (λ (k : Kind). IsVolume (record { dims = c.in-Ok.sizes; step = c.args.step; kind = k; samples = c.in-Ok-read_samples.samples.numbers })) (sym kind) (rows_make c.args.head.now c.args.step c.row_count.result c.in-Ok.sizes _ _ c.in-Ok-read_samples.samples.numbers c.in-Ok.ensures.sizes allowed.1 c.requires.step c.requires.step_bound c.row_count.ensures.value takes low high)
 
 pub returns-in-Ok-read_samples-clause-told : goal.returns-in-Ok-read_samples-clause-told
 returns-in-Ok-read_samples-clause-told g c = λ text len e.
     let allowed = allowed_sizes c.args.limits.now c.args.head.now c.args.step c.in-Ok.sizes c.in-Ok.ensures.value in
     let takes = rw c.grid_of-grid.ensures at c.in-Ok-read_samples.ensures.samples in
     let grid = grid_is c.args.head.now c.args.step c.requires.sizes c.in-Ok.ensures.raw.0 c.in-Ok.ensures.raw.1 c.requires.step c.requires.step_bound in
-    rw c.new.ensures (told_whole c.args.limits.now c.args.head.now text len c.args.step c.row_count.result c.in-Ok.sizes c.in-Ok-read_samples.samples.items _ _ grid allowed.0 allowed.1 c.row_count.ensures.value takes e)
+    let kind = rw c.grid_of-grid.ensures at c.in-Ok-read_samples.ensures.kind in
+    rw (c.new.ensures, kind) (told_whole c.args.limits.now c.args.head.now text len c.args.step c.row_count.result c.in-Ok.sizes c.in-Ok-read_samples.samples.numbers _ _ grid allowed.0 allowed.1 c.row_count.ensures.value takes e)
 
 pub returns-in-Truncated-clause-follows : goal.returns-in-Truncated-clause-follows
 returns-in-Truncated-clause-follows g c =

@@ -10,6 +10,9 @@ use Rattle.slab_texts.proofs.lines.push_known.Goals as goal
 pub loop-n-init : goal.loop-n-init
 loop-n-init c = record { adds = none c.args.nodes.now c.args.out.now; angles = refl; few = omega arith }
 
+pub push_known_tet-requires-clause-among : goal.push_known_tet-requires-clause-among
+push_known_tet-requires-clause-among c = c.requires.among c.loop-n.n _ c.loop-n-test.true
+
 pub push_known_tet-requires-clause-known : goal.push_known_tet-requires-clause-known
 push_known_tet-requires-clause-known c = λ all r.
     let n = c.loop-n.n in

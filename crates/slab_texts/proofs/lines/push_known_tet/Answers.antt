@@ -5,12 +5,16 @@ use Rattle.definitions.specs.Soundness.{corner_places}
 use Rattle.dihedral.proofs.CoveredAngles.{stay_six}
 use Rattle.slab_texts.proofs.lines.push_known_tet.Goals as goal
 
+pub push_line-requires-clause-small : goal.push_line-requires-clause-small
+push_line-requires-clause-small c = λ k d lt. (c.requires.among k d lt).small
+
 pub returns-clause-adds : goal.returns-clause-adds
 returns-clause-adds c = λ all r.
     let o = c.args.out.now in
     record {
       text = c.in_ok-push_line.ensures.text;
       writes = c.push_line.ensures.writes;
+      numbering = c.push_line.ensures.numbering;
       number = ap (λ (k : ℕ). k + 1) c.push_line.ensures.number;
       angles = λ xs e.
           (c.push_line.ensures.angles

@@ -17,12 +17,16 @@ take-requires-clause-positive c =
     let s : Spans c.places_of-tet.result = subst Spans (sym (c.places_of-tet.ensures m.all m.row)) (m.measured 0 [] (omega arith)) in
     s.positive
 
+pub push_line-requires-clause-small : goal.push_line-requires-clause-small
+push_line-requires-clause-small c = λ k d lt. (c.requires.among k d lt).small
+
 pub returns-clause-adds : goal.returns-clause-adds
 returns-clause-adds c = λ all r.
     let n = c.args.out.now.number in
     record {
       text = c.in_ok-push_line.ensures.text;
       writes = c.push_line.ensures.writes;
+      numbering = c.push_line.ensures.numbering;
       number = ap (λ (k : ℕ). k + 1) c.push_line.ensures.number;
       angles = λ xs e.
           (c.take.ensures xs (c.push_line.ensures.angles ∙ e)

@@ -13,6 +13,9 @@ use Rattle.slab_texts.proofs.lines.push_whole.Goals as goal
 pub place_of-own-requires : goal.place_of-own-requires
 place_of-own-requires c = c.requires.among 0 [] (omega arith) 0 0 (omega arith)
 
+pub push_known-requires-clause-among : goal.push_known-requires-clause-among
+push_known-requires-clause-among c = subst (λ (ts : List (List ℕ)). All (AreAmong c.args.nodes.now) ts) (sym c.six_tets-six.ensures) c.requires.among
+
 pub push_known-requires-clause-known : goal.push_known-requires-clause-known
 push_known-requires-clause-known c = λ all r.
     let o = c.args.out.now.angles in

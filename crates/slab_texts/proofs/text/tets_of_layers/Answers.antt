@@ -113,7 +113,7 @@ returns-clause-text c =
     let begun = c.in_ok-out.ensures in
     let number = begun.number ∙ ap (λ counts. sum_by (λ c. c.tets) (take c.args.from counts)) c.requires.offsets ∙ tets_to d ss c.args.from le in
     let pieces = pieces_are d c.args.from c.args.to c.min-top.result n.start c.ids_below-end.result n.end i ss (subst IsDims c.dims-dims.ensures.dims c.dims-dims.ensures.sizes) in
-    (c.in_ok-push_tets.ensures (mesh_of f ss).places row).text ∙ (λ t. begun.text t ++ lines_if (begun.writes t) (number t) (numbered d ss (pieces t)))
+    (c.in_ok-push_tets.ensures (mesh_of f ss).places row).text ∙ (λ t. begun.text t ++ lines_if (begun.writes t) (begun.numbering t) (number t) (numbered d ss (pieces t)))
 
 pub returns-clause-extremes : goal.returns-clause-extremes
 unfolding span_angles

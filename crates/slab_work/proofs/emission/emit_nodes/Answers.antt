@@ -1,7 +1,7 @@
-use Rattle.std.proofs.Common.{◌≡◌, ◌-◌, ◌*◌, ◌<◌, length, min, subst, sym}
+use Rattle.std.proofs.Common.{◌<◌, subst, sym}
 use Rattle.std.specs.Prelude.{IfOk}
 use Rattle.definitions.specs.Layout.{slabs}
-use Rattle.slab_emit.specs.declared.Lines.TheVariants.{Nodes, Tets}
+use Rattle.slab_emit.specs.declared.Lines.TheVariants.{Nodes}
 use Rattle.slab_emit.specs.Parts.{AreParts}
 use Rattle.slab_emit.specs.Sources.{CanPrint, SourceValue}
 use Rattle.slab_work.proofs.Surveys.{mesh_printable}
@@ -11,8 +11,8 @@ pub emit-requires-clause-first : goal.emit-requires-clause-first
 emit-requires-clause-first g c κs within = subst (λ (s : SourceValue). c.args.first < slabs s.field.dims s.slab) (sym c.source_of-source.ensures) c.requires.first
 
 pub returns-clause-parts : goal.returns-clause-parts
-returns-clause-parts g c = subst (λ (s : SourceValue). IfOk c.emit.result (λ ps. AreParts (Nodes c.args.step) s c.args.first ps.items)) c.source_of-source.ensures c.emit.ensures.parts
+returns-clause-parts g c = subst (λ (s : SourceValue). IfOk c.emit.result (λ ps. AreParts (Nodes c.args.frame c.args.numbering) s c.args.first ps.items)) c.source_of-source.ensures c.emit.ensures.parts
 
 pub emit-requires-clause-printable : goal.emit-requires-clause-printable
 emit-requires-clause-printable g c κs within =
-    subst (CanPrint (Nodes c.args.step)) (sym c.source_of-source.ensures) (mesh_printable c.args.step c.args.survey.now.subject.field c.args.survey.now.subject.shares c.requires.step c.requires.sizes)
+    subst (CanPrint (Nodes c.args.frame c.args.numbering)) (sym c.source_of-source.ensures) (c.requires.numbering, mesh_printable c.args.frame c.args.survey.now.subject.field c.args.survey.now.subject.shares c.requires.frame c.requires.sizes)

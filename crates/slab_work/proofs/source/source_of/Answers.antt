@@ -1,6 +1,5 @@
-use Rattle.std.proofs.Common.{◌≡◌, ◌∙◌, ap, subst}
+use Rattle.std.proofs.Common.{subst}
 use Rattle.definitions.specs.States.{IsShares}
-use Rattle.slab_emit.specs.Sources.{SourceValue}
 use Rattle.slab_work.proofs.Surveys.{fits}
 use Rattle.slab_work.proofs.source.source_of.Goals as goal
 

@@ -1,18 +1,15 @@
-use Rattle.std.proofs.Common.{◌∙◌, ap, subst, sym}
+use Rattle.std.proofs.Common.{◌∙◌, ap}
 use Rattle.definitions.specs.Mesh.{mesh}
-use Rattle.definitions.specs.States.{IsShares, Shares}
+use Rattle.definitions.specs.States.{Shares}
 use Rattle.layer_cells.specs.Seats.{Subject}
 use Rattle.mesh_texts.specs.Report.{report}
 use Rattle.stuff.specs.Outputs.{usual_shares}
 use Rattle.stuff.proofs.Traced.{trace_of}
 use Rattle.stuff.proofs.demo.report_of_field.Goals as goal
 
-pub report_of_survey-requires-clause-limits : goal.report_of_survey-requires-clause-limits
-report_of_survey-requires-clause-limits g c κs within = subst (λ (s : Subject). IsShares s.shares) (sym c.in_ok-survey.ensures.subject) c.survey_of.ensures.limits
-
 pub returns-clause-text : goal.returns-clause-text
 returns-clause-text g c =
-    c.in_ok-text.ensures ∙ ap (λ (s : Subject). report (mesh s.field s.shares)) c.in_ok-survey.ensures.subject ∙ ap (λ (s : Shares). report (mesh c.args.field.now s)) c.in-Some.ensures.shares
+    c.in_ok-text.ensures ∙ ap (λ (s : Subject). report 0 (mesh s.field s.shares)) c.in_ok-survey.ensures.subject ∙ ap (λ (s : Shares). report 0 (mesh c.args.field.now s)) c.in-Some.ensures.shares
 
 pub returns-clause-trace : goal.returns-clause-trace
 returns-clause-trace g c =

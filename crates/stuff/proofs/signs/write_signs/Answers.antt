@@ -9,9 +9,9 @@ pub returns-in-Ok-clause-ends : goal.returns-in-Ok-clause-ends
 returns-in-Ok-clause-ends g c = λ name.
     reports g.D.Desk.ports c.write_report.result name (λ p text. text ≡ signs_text c.args.field.now p) c.deref.result.now c.args.desk.now c.write_report.new.desk
     (λ text e. e ∙ sym (c.deref.ensures.value ∙ c.in-Ok.ensures)) c.write_report.ensures.reports c.write_report.ensures.apart.others
-    (record { node = c.requires.faults Node (λ e. cc); ele = c.requires.faults Ele (λ e. cc); report = c.requires.faults Report (λ e. cc) })
+    c.requires.faults
 
 pub returns-in-Err-clause-ends : goal.returns-in-Err-clause-ends
 returns-in-Err-clause-ends g c = λ name.
     untouched g.D.Desk.ports NoMemory false name (λ p text. text ≡ signs_text c.args.field.now p) c.args.desk.now c.args.desk.now refl (λ p t. refl)
-    (record { node = c.requires.faults Node (λ e. cc); ele = c.requires.faults Ele (λ e. cc); report = c.requires.faults Report (λ e. cc) })
+    c.requires.faults

@@ -7,7 +7,7 @@ use Rattle.stuff.specs.Ends.{Accepts}
 use Rattle.stuff.specs.Ports.{TellsFault}
 use Rattle.stuff.proofs.SoundMeshes.{made_bounded, made_sound}
 use Rattle.stuff.proofs.InputEndings.{outcome_comes, words_bad, bad_words_end, bad_or_read, done_or_no_memory}
-use Rattle.stuff.proofs.PortEnds.{tells_none, ends_later, no_write_fault, ports_left, not_in_trouble}
+use Rattle.stuff.proofs.PortEnds.{start_none, tells_none, ends_later, no_write_fault, ports_left, not_in_trouble}
 use Rattle.stuff.proofs.top.stuff.Goals as goal
 
 pub returns-clause-bad_words : goal.returns-clause-bad_words
@@ -19,7 +19,7 @@ returns-clause-write_fault g c = λ port t.
     subst (λ (s : PortState). TellsFault c.run-status.result port s) (sym (c.tell.ensures.apart.others port t))
     (elim (bad_or_read c.run-status.result c.args.words.now c.run-status.ensures.words) [
       | inl bad ↦ subst (λ (s : PortState). TellsFault c.run-status.result port s) (sym (c.run-status.ensures.unread bad.0 bad.1 port))
-          (tells_none g.D.Desk.ports c.run-status.result c.args.desk.now (λ p e. (let q = sym e ∙ bad.1 in cc)) (record { node = c.requires.node.faults; ele = c.requires.ele.faults; report = c.requires.report.faults }) port t)
+          (tells_none g.D.Desk.ports c.run-status.result c.args.desk.now (λ p e. (let q = sym e ∙ bad.1 in cc)) (start_none g.D.Desk.ports _ _ c.args.desk.now c.requires) port t)
       | inr read ↦ (c.run-status.ensures.ports read.0 read.1).faults port t
     ])
 
@@ -82,5 +82,5 @@ pub returns-clause-accepted : goal.returns-clause-accepted
 returns-clause-accepted g c = λ text s i.
     elim (c.run-status.ensures.accepted text s i) [
       | inl kept ↦ inl (λ p t. c.tell.ensures.apart.others p t ∙ kept p t)
-      | inr read ↦ inr (subst (λ (x : InputState). Accepts s.step text x.left) (sym c.tell.ensures.apart.input) read)
+      | inr read ↦ inr (subst (λ (x : InputState). Accepts s.world s.step text x.left) (sym c.tell.ensures.apart.input) read)
     ]

@@ -6,7 +6,7 @@ use Rattle.node_ele_write.proofs.row.Row.begin.Goals as goal
 pub write_digits-self-inside-requires : goal.write_digits-self-inside-requires
 write_digits-self-inside-requires c =
     let few = any_length c.args.number (omega arith) in
-    let len : length c.self.inside.bytes ≡ 112 = search rules in
+    let len : length c.self.inside.bytes ≡ 160 = search rules in
     (few, omega arith)
 
 pub returns-clause-text : goal.returns-clause-text

@@ -5,7 +5,7 @@ use Rattle.node_ele_write.proofs.row.Row.fraction.Goals as goal
 pub returns-clause-text : goal.returns-clause-text
 returns-clause-text c =
     let row = c.self.inside in
-    let bytes : length row.bytes ≡ 112 = search rules in
+    let bytes : length row.bytes ≡ 160 = search rules in
     let new : length c.copy_from_slice.new.self ≡ 16 = search rules in
     let within = c.self.invariant.within in
     let is = c.bytes.ensures.text in

@@ -5,4 +5,4 @@ use Rattle.slab_emit.specs.Sources.{SourceValue}
 use Rattle.slab_emit.proofs.source.Source.node_text.Goals as goal
 
 pub node_text-requires-clause-printable : goal.node_text-requires-clause-printable
-node_text-requires-clause-printable c = subst (λ (s : SourceValue). All (IsPrintable c.args.step) (mesh_of s.field s.states).places) (sym c.self.view_is) c.requires.printable
+node_text-requires-clause-printable c = subst (λ (s : SourceValue). All (IsPrintable c.args.frame.now) (mesh_of s.field s.states).places) (sym c.self.view_is) c.requires.printable

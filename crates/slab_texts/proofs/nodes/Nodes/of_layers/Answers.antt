@@ -40,25 +40,6 @@ returns-clause-nodes c =
     let start : c.ids_below-start.result ≡ layer_start d c.args.from = c.ids_below-start.ensures.start ∙ ap (λ (e : Dims). layer_start e c.args.from) sizes in
     let end : c.ids_below-end.result ≡ layer_start d c.args.to = c.ids_below-end.ensures.start ∙ ap (λ (e : Dims). layer_start e c.args.to) (c.dims-dims.ensures.dims ∙ c.requires.sizes) in
     let h = c.in_ok-starts.ensures in
-    record {
-      padded = subst (λ (e : Dims). ArePadded e s.states) c.requires.sizes c.requires.padded;
-      numbers = numbers_of_sizes s.dims d s.states c.args.from c.args.to c.ids_below-start.result c.ids_below-end.result c.in_ok-starts.starts c.requires.sizes start end h;
-      count = ap length c.in_ok-places.ensures ∙ length-map (keys_of_ids d s.states c.ids_below-start.result _) (node_place c.args.field.now s.states);
-      first =
-          c.node_start.ensures
-          ∙ ap (λ counts. sum_by (λ c. c.nodes) (take c.args.from counts)) c.requires.offsets
-          ∙ counts_to s.dims s.states c.args.from (let l = below c.args.from c.args.to (layers s.dims) c.requires.some c.requires.within in omega arith)
-          ∙ ap (λ (e : Dims). nodes_before e s.states (layer_start e c.args.from)) c.requires.sizes
-          ∙ ap (nodes_before d s.states) (sym start);
-    }
-
-pub returns-clause-few : goal.returns-clause-few
-returns-clause-few c =
-    let d = c.args.field.now.dims in
-    let s = c.args.states.now in
-    let sizes = c.dims-dims.ensures.dims ∙ c.requires.sizes in
-    let start : c.ids_below-start.result ≡ layer_start d c.args.from = c.ids_below-start.ensures.start ∙ ap (λ (e : Dims). layer_start e c.args.from) sizes in
-    let end : c.ids_below-end.result ≡ layer_start d c.args.to = c.ids_below-end.ensures.start ∙ ap (λ (e : Dims). layer_start e c.args.to) (c.dims-dims.ensures.dims ∙ c.requires.sizes) in
     let count = ap length c.in_ok-places.ensures ∙ length-map (keys_of_ids d s.states c.ids_below-start.result _) (node_place c.args.field.now s.states) in
     let first =
     c.node_start.ensures
@@ -68,7 +49,13 @@ returns-clause-few c =
     ∙ ap (nodes_before d s.states) (sym start)
     in
     let r = span_within d c.args.from c.args.to c.ids_below-start.result c.ids_below-end.result c.requires.some (subst (λ (e : Dims). c.args.to ≤ layers e) c.requires.sizes c.requires.within) start end in
-    sums _ _ _ _ first count (few_nodes d s.states c.ids_below-start.result c.ids_below-end.result (subst IsDims sizes c.dims-dims.ensures.sizes) r.0 r.1)
+    record {
+      padded = subst (λ (e : Dims). ArePadded e s.states) c.requires.sizes c.requires.padded;
+      numbers = numbers_of_sizes s.dims d s.states c.args.from c.args.to c.ids_below-start.result c.ids_below-end.result c.in_ok-starts.starts c.requires.sizes start end h;
+      count = count;
+      first = first;
+      few = sums _ _ _ _ first count (few_nodes d s.states c.ids_below-start.result c.ids_below-end.result (subst IsDims sizes c.dims-dims.ensures.sizes) r.0 r.1);
+    }
   where
     sums : (a b x y : ℕ) → a ≡ x → b ≡ y → x + y < 2 ^ 31 → a + b < 2 ^ 31
     sums a b x y e f h = omega arith

@@ -1,0 +1,4 @@
+pub mod Opened
+pub mod FilesRead
+pub mod Tried
+pub mod MeshesDone

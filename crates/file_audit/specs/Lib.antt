@@ -1,0 +1,3 @@
+pub mod Opening
+pub mod Status
+pub mod Laws
