@@ -1,49 +1,24 @@
 -- Numbers and coordinates, as they are written, are read as what they are.
 use Rattle.std.proofs.Common.{◌≡◌, ℕ, zero, suc, ◌+◌, ◌-◌, ◌*◌, ◌/◌, ◌%◌, ◌^◌, ◌<◌, ◌≤◌, ◌==◌, ◌&&◌, ◌||◌, not, nat_le, nat_lt, if◌then◌else◌, List, [], ◌∷◌, ◌++◌, length, take, drop, replicate, get_or, codes, decimal, Bool, true, false, refl, ap, sym, subst, ◌∙◌, arith, ℤ, pos, negsuc, unsigned_abs, int_lt}
-use Rattle.std.proofs.lemmas.Grind.{common_steps}
 use Rattle.std.proofs.lemmas.Bool.{lt-ltb, le-ltb, le-leb, eq-eqb, ne_eqb, and_from, or_left, or_right}
-use Rattle.std.proofs.lemmas.Bool.Decides.{nat_tests}
-use Rattle.std.proofs.lemmas.Fmt.{decimal_is_IsNumeral, decimal_nonempty, decimal_digit, first_decimal, length-decimal-le}
-use Rattle.std.proofs.lemmas.List.{length-append, length-replicate}
+use Rattle.std.proofs.lemmas.Fmt.{decimal_is_IsNumeral, decimal_nonempty, decimal_digit, first_decimal}
+use Rattle.std.proofs.lemmas.List.{length-append}
 use Rattle.std.specs.List.{AllByRecursion, list_all, before_first, after_first, position_or_len}
-use Rattle.std.specs.Char.{is_ascii_digit, digit_value}
-use Rattle.std.specs.Str.Parse.{AllDigits, digits_value}
+use Rattle.std.specs.Char.{is_ascii_digit}
+use Rattle.std.specs.Str.Parse.{digits_value}
+use Rattle.list_words.proofs.Digits.{IsDigit, all_digits, are_digits, padded_length}
 use Rattle.mesh_texts.specs.Coordinates.{padded_decimal, coordinate_text}
 use Rattle.mesh_files.specs.Numbers.{greatest_number, is_number, is_the_number, is_minus, without_sign, whole_digits, fraction_digits, is_decimal, are_units, units, signed, is_coordinate, coordinate}
 use Rattle.mesh_files.proofs.Digits.{digits_append, zeros_are_zero}
 use Rattle.mesh_files.proofs.GridUnits.{are_units_from}
 use Rattle.audit_laws.proofs.Fields.{IsPlain, IsField, both}
 
--- a decimal digit
-abbrev IsDigit : ℕ → Type 0
-IsDigit b = (48 ≤ b) × (b ≤ 57)
-
-digit_of : (b : ℕ) → digit_value b < 10 → IsDigit b
-digit_of b h = (grind (arith, common_steps, nat_tests), grind (arith, common_steps, nat_tests))
-
-digits_of : (bs : List ℕ) → AllDigits 10 bs → AllByRecursion IsDigit bs
-digits_of [] h = tt
-digits_of (b ∷ bs) h = (digit_of b h.0, digits_of bs h.1)
-
-decimal_digits : (n : ℕ) → n < 2 ^ 64 → AllByRecursion IsDigit (decimal n)
-decimal_digits n h = digits_of (decimal n) (decimal_is_IsNumeral n h).0.1
-
-is_digit : (b : ℕ) → IsDigit b → is_ascii_digit b ≡ true
-is_digit b h =
-    let low : nat_le 48 b ≡ true = le-leb 48 b h.0 in
-    let high : nat_le b 57 ≡ true = le-leb b 57 h.1 in
-    rw (low, high) refl
-
-are_digits : (bs : List ℕ) → AllByRecursion IsDigit bs → list_all is_ascii_digit bs ≡ true
-are_digits [] h = refl
-are_digits (b ∷ bs) h = rw (is_digit b h.0, are_digits bs h.1) refl
-
 plain_digits : (bs : List ℕ) → AllByRecursion IsDigit bs → AllByRecursion IsPlain bs
 plain_digits [] h = tt
 plain_digits (b ∷ bs) h = ((omega (arith, h.0.0), h.0.1), plain_digits bs h.1)
 
 pub number_field : (n : ℕ) → n < 2 ^ 64 → IsField (decimal n)
-number_field n h = record { some = decimal_nonempty n h; plain = plain_digits (decimal n) (decimal_digits n h) }
+number_field n h = record { some = decimal_nonempty n h; plain = plain_digits (decimal n) (all_digits n h) }
 
 pub number_value : (n : ℕ) → n < 2 ^ 64 → digits_value 10 (decimal n) ≡ n
 number_value n h = (decimal_is_IsNumeral n h).1
@@ -60,7 +35,7 @@ number_is n h =
     let big : n < 2 ^ 64 = omega arith in
     let small : nat_le (digits_value 10 (decimal n)) greatest_number ≡ true = le-leb (digits_value 10 (decimal n)) 4294967294 (omega (arith, number_value n big)) in
     and_from _ _ (lt-ltb 0 (length (decimal n)) (decimal_nonempty n big))
-    (and_from _ _ (are_digits (decimal n) (decimal_digits n big))
+    (and_from _ _ (are_digits (decimal n) (all_digits n big))
     (and_from _ _ (no_zero_first n big) small))
 
 pub the_number : (n : ℕ) → n ≤ 4294967294 → is_the_number n (decimal n) ≡ true
@@ -79,7 +54,7 @@ zeros_all zero = refl
 zeros_all (suc k) = zeros_all k
 
 padded_digits : (k n : ℕ) → n < 2 ^ 64 → AllByRecursion IsDigit (padded_decimal k n)
-padded_digits k n h = both IsDigit (replicate (k - length (decimal n)) 48) (decimal n) (zeros_digits (k - length (decimal n))) (decimal_digits n h)
+padded_digits k n h = both IsDigit (replicate (k - length (decimal n)) 48) (decimal n) (zeros_digits (k - length (decimal n))) (all_digits n h)
 
 padded_value : (k n : ℕ) → n < 2 ^ 64 → digits_value 10 (padded_decimal k n) ≡ n
 padded_value k n h =
@@ -89,11 +64,6 @@ padded_value k n h =
   where
     nothing_more : (p n : ℕ) → 0 * p + n ≡ n
     nothing_more p n = omega arith
-
-padded_length : (k n : ℕ) → 0 < k → n < 10 ^ k → n < 2 ^ 64 → length (padded_decimal k n) ≡ k
-padded_length k n some small h =
-    let few : length (decimal n) ≤ k = length-decimal-le k n some small h in
-    omega (arith, length-append (replicate (k - length (decimal n)) 48) (decimal n), length-replicate {A = ℕ} (k - length (decimal n)) 48)
 
 -- a whole part, a point and a fraction
 abbrev pointed : List ℕ → List ℕ → List ℕ
@@ -143,7 +113,7 @@ unfolding is_decimal
 read_parts text minus m small parts sign =
     let big : m / 8192 < 2 ^ 64 = omega arith in
     let few : m % 8192 * 5 ^ 13 < 2 ^ 64 = omega (arith, fraction_small m) in
-    let whole_digit = decimal_digits (m / 8192) big in
+    let whole_digit = all_digits (m / 8192) big in
     let whole : whole_digits text ≡ whole_of m = ap (before_first is_point) parts ∙ before_point (whole_of m) (fraction_of m) whole_digit in
     let fraction : fraction_digits text ≡ fraction_of m = ap (after_first is_point) parts ∙ after_point (whole_of m) (fraction_of m) whole_digit in
     let some : nat_lt 0 (length (whole_of m) + length (fraction_of m)) ≡ true = lt-ltb 0 (length (whole_of m) + length (fraction_of m)) (omega (arith, decimal_nonempty (m / 8192) big)) in
@@ -175,7 +145,7 @@ pub record IsCoordinateText (z : ℤ) : Type 0 where
 digits_plain : (m : ℕ) → m < 2 ^ 33 → AllByRecursion IsPlain (pointed (whole_of m) (fraction_of m))
 digits_plain m small =
     let few : m % 8192 * 5 ^ 13 < 2 ^ 64 = omega (arith, fraction_small m) in
-    both IsPlain (whole_of m) (46 ∷ fraction_of m) (plain_digits (whole_of m) (decimal_digits (m / 8192) (omega arith)))
+    both IsPlain (whole_of m) (46 ∷ fraction_of m) (plain_digits (whole_of m) (all_digits (m / 8192) (omega arith)))
     ((omega arith, omega arith), plain_digits (fraction_of m) (padded_digits 13 (m % 8192 * 5 ^ 13) few))
 
 -- a text that begins with a digit has no sign
@@ -189,7 +159,7 @@ begins (b ∷ bs) rest some h =
 pub coordinate_back : (z : ℤ) → unsigned_abs z < 2 ^ 33 → IsCoordinateText z
 coordinate_back (pos m) small =
     let some = decimal_nonempty (m / 8192) (omega arith) in
-    let sign = begins (whole_of m) (46 ∷ fraction_of m) some (decimal_digits (m / 8192) (omega arith)) in
+    let sign = begins (whole_of m) (46 ∷ fraction_of m) some (all_digits (m / 8192) (omega arith)) in
     let text : coordinate_text (pos m) ≡ pointed (whole_of m) (fraction_of m) = ap (λ (b : Bool). (if b then codes "-" else []) ++ pointed (whole_of m) (fraction_of m)) (not_below m) in
     let parts = read_parts (coordinate_text (pos m)) false m small (ap without_sign text ∙ sign.0) (ap is_minus text ∙ sign.1) in
     record {

@@ -1,12 +1,13 @@
 -- Conforming tetrahedra are found sound, at places in any step.
-use Rattle.std.proofs.Common.{◌≡◌, ℕ, zero, suc, ◌+◌, ◌^◌, ◌<◌, ◌≤◌, List, [], ◌∷◌, ◌++◌, length, map, get_or, Bool, true, false, not, nat_lt, None, refl, ap, sym, subst, ◌∙◌, arith, ℤ, pos, negsuc, ◌*ℤ◌}
+use Rattle.std.proofs.Common.{◌≡◌, ℕ, zero, suc, ◌+◌, ◌^◌, ◌<◌, ◌≤◌, List, [], ◌∷◌, length, map, get_or, true, false, not, nat_lt, None, refl, ap, sym, subst, ◌∙◌, arith, ℤ, pos, negsuc, ◌*ℤ◌}
 use Rattle.std.specs.Prelude.{◌<ℤ◌}
 use Rattle.std.proofs.lemmas.Int.{ints}
-use Rattle.std.proofs.lemmas.Bool.{le-ltb}
+use Rattle.std.proofs.lemmas.Bool.{le-ltb, not-false}
 use Rattle.std.proofs.lemmas.List.{length-map}
-use Rattle.std.proofs.lemmas.List.Elements.{All-head, All-tail, All-nil, All-cons, All-weaker}
+use Rattle.std.proofs.lemmas.List.Elements.{All-nil, All-cons, All-weaker}
 use Rattle.std.proofs.lemmas.List.Folds.{list_any_none}
 use Rattle.std.specs.List.{All, position, flat_map, count_by}
+use Rattle.list_words.proofs.Lists.{all_left, all_right}
 use Rattle.definitions.specs.declared.Place.{Place}
 use Rattle.definitions.specs.Places.{place}
 use Rattle.definitions.specs.Vectors.{det, place_at}
@@ -79,18 +80,9 @@ scaled_positive step places t some four positive = go (as_four t four)
         ∙ scaled_det (pos step) (place_at places q.a) (place_at places q.b) (place_at places q.c) (place_at places q.d) in
         ap not (ap is_above_zero value ∙ above_zero _ large)
 
--- what holds of each element of lists joined holds of each list's
-front : {Y : Type 0} (P : Y → Type 0) (xs ys : List Y) → All P (xs ++ ys) → All P xs
-front P [] ys h = All-nil P
-front P (x ∷ xs) ys h = All-cons P x xs (All-head P x (xs ++ ys) h) (front P xs ys (All-tail P x (xs ++ ys) h))
-
-behind : {Y : Type 0} (P : Y → Type 0) (xs ys : List Y) → All P (xs ++ ys) → All P ys
-behind P [] ys h = h
-behind P (x ∷ xs) ys h = behind P xs ys (All-tail P x (xs ++ ys) h)
-
 each_list : {X Y : Type 0} (P : Y → Type 0) (g : X → List Y) (xs : List X) → All P (flat_map g xs) → All (λ x. All P (g x)) xs
 each_list {X} P g [] h = All-nil {X = X} (λ x. All P (g x))
-each_list P g (x ∷ xs) h = All-cons (λ y. All P (g y)) x xs (front P (g x) (flat_map g xs) h) (each_list P g xs (behind P (g x) (flat_map g xs) h))
+each_list P g (x ∷ xs) h = All-cons (λ y. All P (g y)) x xs (all_left P (g x) (flat_map g xs) h) (each_list P g xs (all_right P (g x) (flat_map g xs) h))
 
 none_crowded : (ts : List (List ℕ)) → All (λ t. tets_at_triangle ts t ≤ 2) (all_triangles ts) → All (λ t. is_crowded ts t ≡ false) ts
 unfolding is_crowded
@@ -112,10 +104,6 @@ once places ts h plain k d lt =
     single : (n m l : ℕ) → n ≡ m + l → n ≡ 1 + l → m ≤ 1
     single n m l e f = omega arith
 
-not_false : (b : Bool) → not b ≡ false → b ≡ true
-not_false true e = refl
-not_false false e = sym e
-
 pub conforming_are_sound : ConformingAreSound
 unfolding verdict
 conforming_are_sound step first places ts some conforming of few =
@@ -123,7 +111,7 @@ conforming_are_sound step first places ts some conforming of few =
     let count : length moved ≡ length places = length-map places (scaled step) in
     let positive : All (λ t. not (is_positive moved t) ≡ false) ts = λ k d lt. scaled_positive step places (get_or ts k d) some (conforming.four k d lt) (conforming.positive k d lt) in
     let small : All (All (λ n. n < 2 ^ 32)) ts = All-weaker (All (λ n. n < length places)) (All (λ n. n < 2 ^ 32)) (λ t a k d lt. wider (get_or t k d) (a k d lt)) ts of in
-    let plain : All IsPlain (all_triangles ts) = all_plain moved ts conforming.four (λ k d lt. not_false _ (positive k d lt)) small in
+    let plain : All IsPlain (all_triangles ts) = all_plain moved ts conforming.four (λ k d lt. not-false _ (positive k d lt)) small in
     let none_flat : position (λ t. not (is_positive moved t)) ts ≡ None = position_none (λ t. not (is_positive moved t)) ts [] (λ k lt. positive k [] lt) in
     let none_many : position (is_crowded ts) ts ≡ None = position_none (is_crowded ts) ts [] (λ k lt. none_crowded ts (triangles_are_shared places ts conforming) k [] lt) in
     let none_twice : position (is_turned ts) ts ≡ None = position_none (is_turned ts) ts [] (λ k lt. none_turned ts (once places ts conforming plain) k [] lt) in

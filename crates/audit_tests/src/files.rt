@@ -1,10 +1,11 @@
-use crate::rows::{cut, desk_of, field};
+use crate::rows::desk_of;
 use file_audit::audit_files;
 use st_base::{Status, Verdict};
 use std::alloc::{AllocError, Global};
 use std::process::Abort;
+use table_lines::field;
 
-const LINES: &[u8] = b"\
+const LINES: &str = "\
 ball | ball | Sound { nodes: 15, tets: 24, boundary: 24 }
 ball from one | ball from one | Sound { nodes: 15, tets: 24, boundary: 24 }
 ball | ball/0 1 0 2 7 | NotPositive { tet: 0 }
@@ -95,28 +96,19 @@ fn told(alloc: Global, answer: Result<Verdict, Status>) -> Result<String, AllocE
 }
 
 // Judges the files of a row, of which at most seven bytes are read at once, and compares.
-fn check<R: Abort>(rt: &R, alloc: Global, n: u32, row: &[u8]) {
-    let (node, rest) = field(row);
+fn check<R: Abort>(rt: &R, alloc: Global, row: &str) {
+    let (node, rest) = field(row.as_bytes());
     let (ele, wanted) = field(rest);
     let mut desk = desk_of(alloc, node, ele).expect(rt, "memory");
     desk.at_most(7);
     let answer = audit_files(alloc, &mut desk, b"out");
     let told = told(alloc, answer).expect(rt, "memory");
-    assert!(rt;
-        told.as_bytes() == wanted.trim_ascii(),
-        "in row {n}: {told}"
-    );
+    assert!(rt; told.as_bytes() == wanted.trim_ascii(), "in {row}: {told}");
 }
 
 #[test]
 fn judges_files(rt: HostRuntime) {
-    let mut rest = LINES;
-    let mut n = 0u32;
-    let alloc = rt.alloc();
-    while !rest.is_empty() {
-        let (row, behind) = cut(rest, b'\n');
-        n = n.wrapping_add(1);
-        check(&rt, alloc, n, row);
-        rest = behind;
+    for row in LINES.lines() {
+        check(&rt, rt.alloc(), row);
     }
 }

@@ -5,7 +5,8 @@ use Rattle.definitions.specs.declared.Vertex.{Vertex}
 use Rattle.definitions.specs.Lattice.{InDomain, id, layers, vertex, vertex_at, vertices}
 use Rattle.lattice_counts.specs.Counts.{before_in_layer, below_layer, even_len, odd_len, row_len}
 use Rattle.lattice_laws.proofs.Laws.{ids_count_vertices}
-use Rattle.lattice_counts.proofs.Ranks.{all_length, below_grows, layer_length, rank, vertex_by_place}
+use Rattle.lattice_counts.proofs.Ranks.{all_length, below_grows, layer_length, rank}
+use Rattle.lattice_counts.proofs.Places.{vertex_by_place}
 
 first_in_domain : (d : Dims) → InDomain d (vertex 0 0 0)
 first_in_domain d = record { h_below = omega arith; y_below = omega arith; x_below = omega arith; y_alike = refl; x_alike = refl }

@@ -2,17 +2,18 @@
 use Rattle.std.proofs.Common.{◌≡◌, ◌≢◌, ℕ, zero, suc, refl, sym, ap, subst, inl, inr, Bool, true, false, List, [], ◌∷◌, ◌++◌, map}
 use Rattle.std.specs.Prelude.{◌&&◌, filter, flat_map}
 use Rattle.std.specs.List.{AllByRecursion}
+use Rattle.std.proofs.lemmas.Bool.{both_ways}
 use Rattle.definitions.specs.declared.Dims.{Dims}
 use Rattle.definitions.specs.declared.Vertex.{Vertex}
 use Rattle.definitions.specs.Lattice.{InDomain, are_neighbours, before, vertices}
 use Rattle.definitions.specs.Lists.{cliques, each_with_later}
 use Rattle.definitions.specs.Tetrahedra.{lattice_tets, tets_from}
-use Rattle.lattice_laws.specs.Ascending.{Ascends, Has}
+use Rattle.lattice_laws.specs.Ascending.{Ascends}
 use Rattle.lattice_laws.proofs.AscendingLists.{all_append, ascends_append, ascends_filter}
-use Rattle.lattice_laws.proofs.Booleans.{not_both}
 use Rattle.lattice_laws.proofs.ListedTetrahedra.{lattice_tets_listed}
 use Rattle.lattice_laws.proofs.Sublists.{pairs_by_place}
 use Rattle.lattice_laws.proofs.Vertices.{before_itself, from_vertices, vertices_ascend}
+use Rattle.lattice_laws.proofs.Members.{flat_map_same}
 use Rattle.bcc_lattice.specs.declared.tetrahedra.TetsAt.{TetsAt}
 use Rattle.bcc_lattice.specs.Laws.{FoundTetsAreListed, ListsTets, StandsBefore, all_found}
 use Rattle.bcc_lattice.specs.TetLists.{tets_of}
@@ -88,7 +89,7 @@ module _ {X : Type 0} (lt : X → X → Bool) where
     where
       itself : (a : List X) → StandsBefore lt a a → ⊥
       itself [] h = h
-      itself (x ∷ a) (inl h) = not_both (lt x x) h (irreflexive x)
+      itself (x ∷ a) (inl h) = both_ways (lt x x) (irreflexive x) h
       itself (x ∷ a) (inr h) = itself a h.1
 
 ascends_weaker : {X : Type 0} (R S : X → X → Type 0) → ((x y : X) → R x y → S x y) → (xs : List X) → Ascends R xs → Ascends S xs
@@ -96,10 +97,6 @@ ascends_weaker R S f [] h = tt
 ascends_weaker R S f (x ∷ xs) h = (all_weaker (R x) (S x) (f x) xs h.0, ascends_weaker R S f xs h.1)
 
 -- ---- lattice tetrahedra
-
-flat_map_same : {X Y : Type 0} (f g : X → List Y) (xs : List X) → ((x : X) → Has x xs → f x ≡ g x) → flat_map f xs ≡ flat_map g xs
-flat_map_same f g [] h = refl
-flat_map_same f g (x ∷ xs) h = λ i. h x (inl refl) i ++ flat_map_same f g xs (λ y k. h y (inr k)) i
 
 module _ (d : Dims) where
   -- those with one lowest vertex, without it

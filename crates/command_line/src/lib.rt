@@ -8,6 +8,9 @@ pub enum Verb {
     Count,
     Mesh,
     Demo,
+    Audit,
+    Probe,
+    Stream,
 }
 
 /// The name of a named word.
@@ -22,6 +25,8 @@ pub enum Name {
     Slab,
     First,
     Units,
+    Faces,
+    At,
     Size,
     Seed,
 }

@@ -4,14 +4,17 @@ use Rattle.std.specs.Prelude.{nat_eq, find}
 use Rattle.std.specs.List.{AllZip, starts_with}
 use Rattle.std.proofs.lemmas.Bool.{eq-eqb, eqb-true, cases_lt}
 use Rattle.std.proofs.lemmas.Fmt.{decimal_injective, decimal_digit}
+use Rattle.definitions.specs.declared.Place.{Place}
+use Rattle.definitions.specs.Places.{place}
 use Rattle.command_line.specs.declared.Name.{Name}
-use Rattle.command_line.specs.declared.Name.TheVariants.{Level, Below, Step, Long, Short, Workers, Slab, First, Units, Size, Seed}
-use Rattle.command_line.specs.Grammar.{Setting, ReadsSetting, IsNumber, IsUnits, IsValue, name_number, same_name, name_text}
+use Rattle.command_line.specs.declared.Name.TheVariants.{Level, Below, Step, Long, Short, Workers, Slab, First, Units, Faces, At, Size, Seed}
+use Rattle.command_line.specs.Grammar.{Setting, Value, Number, Point, ReadsSetting, IsNumber, IsUnits, IsNumeric, IsCoordinate, IsPoint, IsValue, name_number, same_name, name_text}
+use Rattle.command_words.proofs.Commas.{point_once}
 use Rattle.command_words.proofs.Decimals.{level_once}
 use Rattle.command_words.proofs.TextEnds.{other_first}
 
 abbrev pub all_names : List Name
-all_names = Level ∷ Below ∷ Step ∷ Long ∷ Short ∷ Workers ∷ Slab ∷ First ∷ Units ∷ Size ∷ Seed ∷ []
+all_names = Level ∷ Below ∷ Step ∷ Long ∷ Short ∷ Workers ∷ Slab ∷ First ∷ Units ∷ Faces ∷ At ∷ Size ∷ Seed ∷ []
 
 -- a name by its number
 pub name_at : (n other : Name) → slice_index_or all_names (name_number n) other ≡ n
@@ -24,10 +27,12 @@ name_at Workers other = refl
 name_at Slab other = refl
 name_at First other = refl
 name_at Units other = refl
+name_at Faces other = refl
+name_at At other = refl
 name_at Size other = refl
 name_at Seed other = refl
 
-pub name_below : (n : Name) → name_number n < 11
+pub name_below : (n : Name) → name_number n < 13
 name_below Level = omega arith
 name_below Below = omega arith
 name_below Step = omega arith
@@ -37,6 +42,8 @@ name_below Workers = omega arith
 name_below Slab = omega arith
 name_below First = omega arith
 name_below Units = omega arith
+name_below Faces = omega arith
+name_below At = omega arith
 name_below Size = omega arith
 name_below Seed = omega arith
 
@@ -63,6 +70,8 @@ name_reads Workers text = refl
 name_reads Slab text = refl
 name_reads First text = refl
 name_reads Units text = refl
+name_reads Faces text = refl
+name_reads At text = refl
 name_reads Size text = refl
 name_reads Seed text = refl
 
@@ -76,6 +85,8 @@ tail_reads Workers text = refl
 tail_reads Slab text = refl
 tail_reads First text = refl
 tail_reads Units text = refl
+tail_reads Faces text = refl
+tail_reads At text = refl
 tail_reads Size text = refl
 tail_reads Seed text = refl
 
@@ -92,18 +103,60 @@ units_once text a b (inl (e, f)) (inr (g, h)) = absurd (two_units text e g)
 units_once text a b (inr (e, f)) (inl (g, h)) = absurd (two_units text g e)
 units_once text a b (inr (e, f)) (inr (g, h)) = f ∙ sym h
 
-value_once : (n : Name) (text : List ℕ) (a b : ℤ) → IsValue n text a → IsValue n text b → a ≡ b
-value_once Level text a b p q = level_once text a b p q
-value_once Below text a b p q = p.1 ∙ sym q.1
-value_once Step text a b p q = number_once 1 64 text a b (omega arith) p q
-value_once Long text a b p q = number_once 0 1023 text a b (omega arith) p q
-value_once Short text a b p q = number_once 0 2047 text a b (omega arith) p q
-value_once Workers text a b p q = number_once 1 64 text a b (omega arith) p q
-value_once Slab text a b p q = number_once 1 64 text a b (omega arith) p q
-value_once First text a b p q = number_once 0 1 text a b (omega arith) p q
-value_once Units text a b p q = units_once text a b p q
-value_once Size text a b p q = number_once 1 128 text a b (omega arith) p q
-value_once Seed text a b p q = number_once 0 (2 ^ 64 - 1) text a b (omega arith) p q
+numeric_once : (n : Name) (text : List ℕ) (a b : ℤ) → IsNumeric n text a → IsNumeric n text b → a ≡ b
+numeric_once Level text a b p q = level_once text a b p q
+numeric_once Below text a b p q = p.1 ∙ sym q.1
+numeric_once Step text a b p q = number_once 1 64 text a b (omega arith) p q
+numeric_once Long text a b p q = number_once 0 1023 text a b (omega arith) p q
+numeric_once Short text a b p q = number_once 0 2047 text a b (omega arith) p q
+numeric_once Workers text a b p q = number_once 1 64 text a b (omega arith) p q
+numeric_once Slab text a b p q = number_once 1 64 text a b (omega arith) p q
+numeric_once First text a b p q = number_once 0 1 text a b (omega arith) p q
+numeric_once Units text a b p q = units_once text a b p q
+numeric_once Faces text a b p q = p.1 ∙ sym q.1
+numeric_once At text a b p q = absurd p
+numeric_once Size text a b p q = number_once 1 128 text a b (omega arith) p q
+numeric_once Seed text a b p q = number_once 0 (2 ^ 64 - 1) text a b (omega arith) p q
+
+-- a number or a point, by the name
+pub number_of : (n : Name) (text : List ℕ) (value : ℤ) → IsValue n text (Number value) → IsNumeric n text value
+number_of Level text value h = h
+number_of Below text value h = h
+number_of Step text value h = h
+number_of Long text value h = h
+number_of Short text value h = h
+number_of Workers text value h = h
+number_of Slab text value h = h
+number_of First text value h = h
+number_of Units text value h = h
+number_of Faces text value h = h
+number_of At text value h = h
+number_of Size text value h = h
+number_of Seed text value h = h
+
+pub point_of : (n : Name) (text : List ℕ) (p : Place) → IsValue n text (Point p) → (n ≡ At) × IsPoint text p
+point_of Level text p h = absurd h
+point_of Below text p h = absurd h
+point_of Step text p h = absurd h
+point_of Long text p h = absurd h
+point_of Short text p h = absurd h
+point_of Workers text p h = absurd h
+point_of Slab text p h = absurd h
+point_of First text p h = absurd h
+point_of Units text p h = absurd h
+point_of Faces text p h = absurd h
+point_of At text p h = (refl, h)
+point_of Size text p h = absurd h
+point_of Seed text p h = absurd h
+
+not_both : (n : Name) (text : List ℕ) (value : ℤ) (p : Place) → IsValue n text (Number value) → IsValue n text (Point p) → ⊥
+not_both n text value p h k = subst (λ (m : Name). IsNumeric m text value) (point_of n text p k).0 (number_of n text value h)
+
+value_once : (n : Name) (text : List ℕ) (a b : Value) → IsValue n text a → IsValue n text b → a ≡ b
+value_once n text (Number a) (Number b) p q = ap Number (numeric_once n text a b (number_of n text a p) (number_of n text b q))
+value_once n text (Number a) (Point b) p q = absurd (not_both n text a b p q)
+value_once n text (Point a) (Number b) p q = absurd (not_both n text b a q p)
+value_once n text (Point a) (Point b) p q = ap Point (point_once text a b (point_of n text a p).1 (point_of n text b q).1)
 
 -- what a word that begins with a name reads as
 pub record IsNamed (n : Name) (text : List ℕ) (s : Setting) : Type 0 where
@@ -137,6 +190,18 @@ settings_once (w ∷ ws) (s ∷ ss) (t ∷ ts) r q =
     let f = settings_once ws ss ts r.1 q.1 in
     λ i. e i ∷ f i
 
+-- what is found of a word's value is found of the word
+pub setting_found : (n : Name) (w text : List ℕ) (o : Option Setting) → w ≡ name_text n ++ text →
+    ((value : ℤ) → IsValue n text (Number value) → o ≡ Some (record { name = n; value = Number value })) →
+    ((p : Place) → IsValue n text (Point p) → o ≡ Some (record { name = n; value = Point p })) → (s : Setting) → ReadsSetting w s → o ≡ Some s
+setting_found n w text o e number point s r =
+    let h = named n w text s e r in
+    found_by s.value h.value_is ∙ (λ i. Some (record { name = sym h.name_is i; value = s.value }))
+  where
+    found_by : (value : Value) → IsValue n text value → o ≡ Some (record { name = n; value = value })
+    found_by (Number value) k = number value k
+    found_by (Point p) k = point p k
+
 -- a word that begins with none of the names up to a number
 abbrev pub IsUnnamed : List ℕ → ℕ → Type 0
 IsUnnamed word count = (n : Name) → name_number n < count → (text : List ℕ) → word ≡ name_text n ++ text → ⊥
@@ -162,21 +227,18 @@ sample_text Workers = codes "1"
 sample_text Slab = codes "1"
 sample_text First = codes "1"
 sample_text Units = codes "world"
+sample_text Faces = codes "yes"
+sample_text At = codes "0,0,0"
 sample_text Size = codes "1"
 sample_text Seed = codes "1"
 
-abbrev pub sample_value : Name → ℤ
-sample_value Level = pos 0
-sample_value Below = pos 1
-sample_value Step = pos 1
-sample_value Long = pos 1
-sample_value Short = pos 1
-sample_value Workers = pos 1
-sample_value Slab = pos 1
-sample_value First = pos 1
-sample_value Units = pos 1
-sample_value Size = pos 1
-sample_value Seed = pos 1
+abbrev pub sample_value : Name → Value
+sample_value Level = Number (pos 0)
+sample_value At = Point (place (pos 0) (pos 0) (pos 0))
+sample_value n = Number (pos 1)
+
+zero_is : IsCoordinate (codes "0") (pos 0)
+zero_is = (0, omega arith, inl (sym (decimal_digit 0 (omega arith)), refl))
 
 sample_is : (n : Name) → IsValue n (sample_text n) (sample_value n)
 sample_is Level = (0, inl ((0, omega arith, inl (sym (decimal_digit 0 (omega arith)), refl)), refl))
@@ -188,6 +250,8 @@ sample_is Workers = (1, omega arith, omega arith, sym (decimal_digit 1 (omega ar
 sample_is Slab = (1, omega arith, omega arith, sym (decimal_digit 1 (omega arith)), refl)
 sample_is First = (1, omega arith, omega arith, sym (decimal_digit 1 (omega arith)), refl)
 sample_is Units = inr (refl, refl)
+sample_is Faces = (refl, refl)
+sample_is At = (codes "0", codes "0", codes "0", refl, zero_is, zero_is, zero_is)
 sample_is Size = (1, omega arith, omega arith, sym (decimal_digit 1 (omega arith)), refl)
 sample_is Seed = (1, omega arith, omega arith, sym (decimal_digit 1 (omega arith)), refl)
 

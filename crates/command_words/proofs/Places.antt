@@ -1,27 +1,22 @@
 -- The commands of the grammar, and the places at which words are bad.
-use Rattle.std.proofs.Common.{◌≡◌, inl, inr, ℕ, ℤ, pos, ◌+◌, ◌-◌, ◌<◌, ◌≤◌, zero, suc, List, [], ◌∷◌, ◌++◌, length, take, drop, append_assoc, length-append, Bool, true, false, Option, Some, None, refl, ap, sym, ◌∙◌, subst, arith, slice_index_or, add-one}
-use Rattle.std.specs.Prelude.{IsTrue, ◌&&◌, ◌==◌, nat_lt, option_map, option_and_then, unwrap_or, unsigned_abs, is_some, if◌then◌else◌, IfSome}
+use Rattle.std.proofs.Common.{◌≡◌, inl, inr, ℕ, ◌+◌, ◌-◌, ◌<◌, ◌≤◌, zero, suc, List, [], ◌∷◌, ◌++◌, length, take, drop, append_assoc, length-append, true, false, Option, Some, refl, ap, sym, ◌∙◌, subst, arith, slice_index_or, add-one}
+use Rattle.std.specs.Prelude.{IsTrue, nat_lt, find}
 use Rattle.std.specs.Str.{bytes_eq}
-use Rattle.std.proofs.Math.Seq.{take-suc, take-length, take-append-add}
+use Rattle.std.proofs.Math.Seq.{take-suc, take-append-add}
 use Rattle.std.proofs.lemmas.Bool.{cases_lt}
 use Rattle.std.proofs.lemmas.Bool.Decides.{nat_tests}
 use Rattle.std.proofs.lemmas.List.{take-take, take-append-drop, drop_at, length-take-le, get_or_append_left, get_or-take}
 use Rattle.std.proofs.lemmas.List.Folds.{list_all-append}
 use Rattle.std.proofs.lemmas.Slice.Eq.{bytes_eq-Decides}
 use Rattle.std.specs.List.{AllZip, list_all}
-use Rattle.command_line.specs.declared.Name.{Name}
-use Rattle.command_line.specs.declared.Name.TheVariants.{Level, Below, Step, Long, Short, Workers, Slab, First, Units, Size, Seed}
 use Rattle.command_line.specs.declared.Verb.{Verb}
-use Rattle.command_line.specs.declared.Verb.TheVariants.{Count, Mesh, Demo}
-use Rattle.command_line.specs.Grammar.{Setting, ReadsSetting, IsComplete, Reads, Command, Meshing, Begins, IsBadPlace, IsPlan, CountSigns, MakeMesh, MakeDemo, command_of, meshing_with, is_set, number_or, shares_of, plan_of as plan_of_settings, value_or, verb_text, file_count, required}
+use Rattle.command_line.specs.declared.Verb.TheVariants.{Count, Mesh, Demo, Audit, Probe, Stream}
+use Rattle.command_line.specs.Grammar.{Setting, ReadsSetting, IsComplete, Reads, Command, Begins, IsBadPlace, command_of, is_set, verb_text, file_count, required}
 use Rattle.command_words.specs.declared.settings.Seen.{Seen}
-use Rattle.command_words.specs.declared.command.Command.{Command as Found}
-use Rattle.command_words.specs.declared.command.Command.TheVariants as found
-use Rattle.command_words.specs.Commands.{is_word, is_name, HasVerb, AreNames, IsBadName, IsSourceWithin, command_seen, meaning_of, source_of, step_of, mesh_of, plan_of, plan_seen, shares_seen}
-use Rattle.command_words.specs.Settings.{held, units_value, value_of, IsSettled, IsTaken, IsStuck, IsStop}
+use Rattle.command_words.specs.Commands.{is_word, is_name, HasVerb, AreNames, IsBadName}
+use Rattle.command_words.specs.Settings.{IsSettled, IsTaken, IsStuck, IsStop}
 use Rattle.command_words.proofs.NamedWords.{settings_once}
-use Rattle.command_words.proofs.TextEnds.{other_first}
-use Rattle.command_words.proofs.Settled.{set_is, settled_none, filled, stuck_none, number_between, left_of, right_of, both}
+use Rattle.command_words.proofs.Settled.{settled_none, filled, stuck_none, left_of, right_of, both}
 
 -- the first word
 other_text : (w : List ℕ) (text : List ℕ) → bytes_eq w text ≡ true → w ≡ text
@@ -34,16 +29,25 @@ first_is (w ∷ ws) text h =
     (ws, ap (λ (u : List ℕ). u ∷ ws) (other_text w text t))
 
 -- commands are told apart by their words
+abbrev all_verbs : List Verb
+all_verbs = Count ∷ Mesh ∷ Demo ∷ Audit ∷ Probe ∷ Stream ∷ []
+
+abbrev verb_at : List ℕ → Option Verb
+verb_at text = find (λ v. bytes_eq text (verb_text v)) all_verbs
+
+verb_reads : (v : Verb) → verb_at (verb_text v) ≡ Some v
+verb_reads Count = refl
+verb_reads Mesh = refl
+verb_reads Demo = refl
+verb_reads Audit = refl
+verb_reads Probe = refl
+verb_reads Stream = refl
+
+some_is : (u v : Verb) → Some u ≡ Some v → u ≡ v
+some_is u v e = cc
+
 same_verb : (u v : Verb) → verb_text u ≡ verb_text v → u ≡ v
-same_verb Count Count e = refl
-same_verb Count Mesh e = cc
-same_verb Count Demo e = cc
-same_verb Mesh Count e = cc
-same_verb Mesh Mesh e = refl
-same_verb Mesh Demo e = absurd (other_first (verb_text Demo) (verb_text Mesh) 100 109 refl refl (omega arith) (sym e))
-same_verb Demo Count e = cc
-same_verb Demo Mesh e = absurd (other_first (verb_text Demo) (verb_text Mesh) 100 109 refl refl (omega arith) e)
-same_verb Demo Demo e = refl
+same_verb u v e = some_is u v (sym (verb_reads u) ∙ ap verb_at e ∙ verb_reads v)
 
 head_is : (v w : List ℕ) (xs ys : List (List ℕ)) → v ∷ xs ≡ w ∷ ys → v ≡ w
 head_is v w xs ys e = cc
@@ -70,7 +74,7 @@ file_name_not ws n h i =
     let f : true ≡ false = sym t ∙ h in
     cc
 
-abbrev are_files : List (List ℕ) → Type 0
+abbrev pub are_files : List (List ℕ) → Type 0
 are_files files = IsTrue (list_all (λ f. nat_lt 0 (length f)) files)
 
 file_first : (f : List ℕ) (files : List (List ℕ)) → are_files (f ∷ files) → 0 < length f
@@ -140,7 +144,7 @@ reads_as v files named c len r =
     let rest : r.named ≡ named = sym (same_rest files named r.files r.named lens tail) in
     read_as r.verb v named r.settings c same (subst (λ (u : List (List ℕ)). AllZip ReadsSetting u r.settings) rest r.named_are) r.complete r.command_is
 
-reads_whole : (v : Verb) (files named : List (List ℕ)) (settings : List Setting) → length files ≡ file_count v → are_files files → IsSettled v named settings → list_all (is_set settings) (required v) ≡ true → Reads (verb_text v ∷ (files ++ named)) (command_of v settings)
+pub reads_whole : (v : Verb) (files named : List (List ℕ)) (settings : List Setting) → length files ≡ file_count v → are_files files → IsSettled v named settings → list_all (is_set settings) (required v) ≡ true → Reads (verb_text v ∷ (files ++ named)) (command_of v settings)
 reads_whole v files named settings len some settled there = record {
   verb = v;
   files = files;
@@ -158,7 +162,7 @@ reads_whole v files named settings len some settled there = record {
 begins_prefix : (w : List ℕ) (xs ys : List (List ℕ)) → Begins (w ∷ (xs ++ ys)) → Begins (w ∷ xs)
 begins_prefix w xs ys b = (ys ++ b.0, b.1, subst (λ (u : List (List ℕ)). Reads (w ∷ u) b.1) (append_assoc xs ys b.0) b.2)
 
-begins_named : (v : Verb) (files named : List (List ℕ)) (settings : List Setting) → length files ≡ file_count v → are_files files → IsSettled v named settings → Begins (verb_text v ∷ (files ++ named))
+pub begins_named : (v : Verb) (files named : List (List ℕ)) (settings : List Setting) → length files ≡ file_count v → are_files files → IsSettled v named settings → Begins (verb_text v ∷ (files ++ named))
 begins_named v files named settings len some settled =
     let f = filled v named settings settled in
     let whole : Reads (verb_text v ∷ (files ++ (named ++ f.rest))) (command_of v f.settings) = reads_whole v files (named ++ f.rest) f.settings len some f.settled f.there in
@@ -236,7 +240,7 @@ opened ws v verb names =
       files_named = front.files;
     }
 
-named_from : (v : Verb) (ws : List (List ℕ)) (o : IsOpened v ws) → drop (file_count v + 1) ws ≡ o.named
+pub named_from : (v : Verb) (ws : List (List ℕ)) (o : IsOpened v ws) → drop (file_count v + 1) ws ≡ o.named
 named_from v ws o =
     let e : drop (suc (file_count v)) (verb_text v ∷ (o.files ++ o.named)) ≡ o.named = drop_at o.files o.named (file_count v) o.files_len in
     ap (λ (u : List (List ℕ)). drop (file_count v + 1) u) o.words_are ∙ ap (λ (n : ℕ). drop n (verb_text v ∷ (o.files ++ o.named))) (add-one (file_count v)) ∙ e
@@ -275,213 +279,6 @@ stop_place ws v place o stop =
     (subst (λ (u : List (List ℕ)). stop.taken < length u) from stop.within)
     (subst (λ (u : List (List ℕ)). IsTaken v (take stop.taken u) stop.seen) from stop.before)
     (subst (λ (u : List (List ℕ)). IsStuck v stop.seen (slice_index_or u stop.taken [])) from stop.stuck)))
-
--- a name that must be set, and was not
-record IsMissing (v : Verb) (seen : Seen) : Type 0 where
-  name : Name
-  needed : (ss : List Setting) → list_all (is_set ss) (required v) ≡ true → is_set ss name ≡ true
-  unset : held seen name ≡ None
-
-from_none_map : {A B : Type 0} (f : A → B) (o : Option A) → option_map f o ≡ None → o ≡ None
-from_none_map f None e = refl
-from_none_map f (Some x) e = cc
-
-missing : (v : Verb) (seen : Seen) → command_seen v seen ≡ None → IsMissing v seen
-missing Count seen e = record { name = Level; needed = λ ss h. left_of (is_set ss Level) true h; unset = from_none_map _ seen.level e }
-missing Mesh seen e = record { name = Level; needed = λ ss h. left_of (is_set ss Level) true h; unset = from_none_map _ seen.level e }
-missing Demo seen e = go seen.size refl e
-  where
-    go : (size : Option ℕ) → seen.size ≡ size → option_and_then (λ size. option_map (λ seed. found.Demo size seed (plan_seen seen)) seen.seed) size ≡ None → IsMissing Demo seen
-    go None is e = record { name = Size; needed = λ ss h. left_of (is_set ss Size) (is_set ss Seed && true) h; unset = ap (option_map pos) is }
-    go (Some n) is e = record {
-      name = Seed;
-      needed = λ ss h. left_of (is_set ss Seed) true (right_of (is_set ss Size) (is_set ss Seed && true) h);
-      unset = ap (option_map pos) (from_none_map (λ seed. found.Demo n seed (plan_seen seen)) seen.seed e);
-    }
-
-not_unset : (v : Verb) (named : List (List ℕ)) (seen : Seen) (ss : List Setting) (n : Name) → IsTaken v named seen → held seen n ≡ None → IsSettled v named ss → is_set ss n ≡ true → ⊥
-not_unset v named seen ss n t none settled there =
-    let e : t.settings ≡ ss = settings_once named t.settings ss t.settled.named_are settled.named_are in
-    let w : value_of ss n ≡ None = ap (λ (u : List Setting). value_of u n) (sym e) ∙ sym (t.held_are n) ∙ none in
-    let f : is_set ss n ≡ false = set_is n ss ∙ ap is_some w in
-    cc
-
-incomplete : (v : Verb) (files named : List (List ℕ)) (seen : Seen) → length files ≡ file_count v → are_files files → IsTaken v named seen → IsMissing v seen → IsBadPlace (verb_text v ∷ (files ++ named)) (length (verb_text v ∷ (files ++ named)))
-incomplete v files named seen len some t m = record {
-  unread = λ c r. (let s = reads_as v files named c len r in not_unset v named seen s.settings m.name t m.unset s.settled (m.needed s.settings s.there));
-  within = omega arith;
-  begins = subst (λ (u : List (List ℕ)). Begins u) (sym (take-length (verb_text v ∷ (files ++ named)))) (begins_named v files named t.settings len some t.settled);
-  ends = λ lt on. absurd (omega (arith, lt));
-}
-
-taken_behind : (ws : List (List ℕ)) (v : Verb) (seen : Seen) (o : IsOpened v ws) → IsTaken v (drop (file_count v + 1) ws) seen → IsTaken v o.named seen
-taken_behind ws v seen o t = subst (λ (u : List (List ℕ)). IsTaken v u seen) (named_from v ws o) t
-
-pub no_command : (ws : List (List ℕ)) (v : Verb) (seen : Seen) → IsOpened v ws → IsTaken v (drop (file_count v + 1) ws) seen → command_seen v seen ≡ None → IsBadPlace ws (length ws)
-no_command ws v seen o t none =
-    subst (λ (u : List (List ℕ)). IsBadPlace u (length u)) (sym o.words_are) (incomplete v o.files o.named seen o.files_len o.files_named (taken_behind ws v seen o t) (missing v seen none))
-
--- what the command is
-below_is : (b : Bool) (o : Option ℤ) → (if b then Some (pos 1) else None) ≡ o → b ≡ is_some o
-below_is true o e = ap is_some e
-below_is false o e = ap is_some e
-
-number_is : (default : ℕ) (o : Option ℕ) (p : Option ℤ) → option_map pos o ≡ p → unwrap_or o default ≡ unsigned_abs (unwrap_or p (pos default))
-number_is default None p e = ap (λ (q : Option ℤ). unsigned_abs (unwrap_or q (pos default))) e
-number_is default (Some n) p e = ap (λ (q : Option ℤ). unsigned_abs (unwrap_or q (pos default))) e
-
-world_is : (o : Option Bool) (p : Option ℤ) → option_map units_value o ≡ p → unwrap_or o false ≡ (unsigned_abs (unwrap_or p (pos 0)) == 1)
-world_is None p e = ap (λ (q : Option ℤ). unsigned_abs (unwrap_or q (pos 0)) == 1) e
-world_is (Some true) p e = ap (λ (q : Option ℤ). unsigned_abs (unwrap_or q (pos 0)) == 1) e
-world_is (Some false) p e = ap (λ (q : Option ℤ). unsigned_abs (unwrap_or q (pos 0)) == 1) e
-
-abbrev meshing_seen : ℤ → Seen → Meshing
-meshing_seen level seen =
-    record { input = 1; output = 2; level = level; below = seen.below; step = unwrap_or seen.step 1; shares = shares_seen seen; plan = plan_seen seen; numbering = unwrap_or seen.first 0; world = unwrap_or seen.world false }
-
--- the command that was seen is that of the settings, and all are there that must be
-record IsSeen (v : Verb) (ss : List Setting) (c : Found) : Type 0 where
-  means : meaning_of c ≡ command_of v ss
-  there : list_all (is_set ss) (required v) ≡ true
-
-from_some_map : {A B : Type 0} (f : A → B) (o : Option A) (y : B) → option_map f o ≡ Some y → (x : A) × (o ≡ Some x) × (f x ≡ y)
-from_some_map f None y e = cc
-from_some_map f (Some x) y e = (x, refl, cc)
-
-from_some_then : {A B : Type 0} (f : A → Option B) (o : Option A) (y : B) → option_and_then f o ≡ Some y → (x : A) × (o ≡ Some x) × (f x ≡ Some y)
-from_some_then f None y e = cc
-from_some_then f (Some x) y e = (x, refl, e)
-
-module _ (v : Verb) (named : List (List ℕ)) (seen : Seen) (t : IsTaken v named seen) where
-  set_by : (n : Name) (value : ℤ) → held seen n ≡ Some value → is_set t.settings n ≡ true
-  set_by n value e = set_is n t.settings ∙ ap is_some (sym (t.held_are n) ∙ e)
-
-  level_is : (level : ℤ) → seen.level ≡ Some level → level ≡ value_or t.settings Level (pos 0)
-  level_is level e = ap (λ (o : Option ℤ). unwrap_or o (pos 0)) (sym e ∙ t.held_are Level)
-
-  below_seen : seen.below ≡ is_set t.settings Below
-  below_seen = below_is seen.below (value_of t.settings Below) (t.held_are Below) ∙ sym (set_is Below t.settings)
-
-  step_is : unwrap_or seen.step 1 ≡ number_or t.settings Step 1
-  step_is = number_is 1 seen.step (value_of t.settings Step) (t.held_are Step)
-
-  shares_are : shares_seen seen ≡ shares_of t.settings
-  shares_are = λ i. record { long = number_is 1023 seen.long (value_of t.settings Long) (t.held_are Long) i; short = number_is 1687 seen.short (value_of t.settings Short) (t.held_are Short) i }
-
-  plan_is : plan_seen seen ≡ plan_of_settings t.settings
-  plan_is = λ i. record { workers = number_is 4 seen.workers (value_of t.settings Workers) (t.held_are Workers) i; slab = number_is 4 seen.slab (value_of t.settings Slab) (t.held_are Slab) i }
-
-  numbering_is : unwrap_or seen.first 0 ≡ number_or t.settings First 0
-  numbering_is = number_is 0 seen.first (value_of t.settings First) (t.held_are First)
-
-  world_seen : unwrap_or seen.world false ≡ (number_or t.settings Units 0 == 1)
-  world_seen = world_is seen.world (value_of t.settings Units) (t.held_are Units)
-
-  meshing_is : (level : ℤ) → seen.level ≡ Some level → meshing_seen level seen ≡ meshing_with t.settings
-  meshing_is level e =
-      λ i. record { input = 1; output = 2; level = level_is level e i; below = below_seen i; step = step_is i; shares = shares_are i; plan = plan_is i; numbering = numbering_is i; world = world_seen i }
-
-  size_is : (size : ℕ) → seen.size ≡ Some size → size ≡ number_or t.settings Size 1
-  size_is size e = ap (λ (o : Option ℕ). unwrap_or o 1) (sym e) ∙ number_is 1 seen.size (value_of t.settings Size) (t.held_are Size)
-
-  seed_is : (seed : ℕ) → seen.seed ≡ Some seed → seed ≡ number_or t.settings Seed 0
-  seed_is seed e = ap (λ (o : Option ℕ). unwrap_or o 0) (sym e) ∙ number_is 0 seen.seed (value_of t.settings Seed) (t.held_are Seed)
-
-seen_is : (v : Verb) (named : List (List ℕ)) (seen : Seen) (c : Found) (t : IsTaken v named seen) → command_seen v seen ≡ Some c → IsSeen v t.settings c
-seen_is Count named seen c t e =
-    let r = from_some_map _ seen.level c e in
-    record {
-      means = ap meaning_of (sym r.2) ∙ (λ i. CountSigns 1 (level_is Count named seen t r.0 r.1 i) (below_seen Count named seen t i) (step_is Count named seen t i));
-      there = both (is_set t.settings Level) true (set_by Count named seen t Level r.0 r.1) refl;
-    }
-seen_is Mesh named seen c t e =
-    let r = from_some_map _ seen.level c e in
-    record {
-      means = ap meaning_of (sym r.2) ∙ ap MakeMesh (meshing_is Mesh named seen t r.0 r.1);
-      there = both (is_set t.settings Level) true (set_by Mesh named seen t Level r.0 r.1) refl;
-    }
-seen_is Demo named seen c t e =
-    let q = from_some_then (λ size. option_map (λ seed. found.Demo size seed (plan_seen seen)) seen.seed) seen.size c e in
-    let r = from_some_map (λ seed. found.Demo q.0 seed (plan_seen seen)) seen.seed c q.2 in
-    record {
-      means = ap meaning_of (sym r.2) ∙ (λ i. MakeDemo (size_is Demo named seen t q.0 q.1 i) (seed_is Demo named seen t r.0 r.1 i) (plan_is Demo named seen t i));
-      there = both (is_set t.settings Size) (is_set t.settings Seed && true) (set_by Demo named seen t Size (pos q.0) (ap (option_map pos) q.1))
-          (both (is_set t.settings Seed) true (set_by Demo named seen t Seed (pos r.0) (ap (option_map pos) r.1)) refl);
-    }
-
-pub reads_all : (ws : List (List ℕ)) (v : Verb) (seen : Seen) (c : Found) → IsOpened v ws → IsTaken v (drop (file_count v + 1) ws) seen → command_seen v seen ≡ Some c → Reads ws (meaning_of c)
-reads_all ws v seen c o taken e =
-    let t = taken_behind ws v seen o taken in
-    let is = seen_is v o.named seen c t e in
-    let whole : Reads (verb_text v ∷ (o.files ++ o.named)) (command_of v t.settings) = reads_whole v o.files o.named t.settings o.files_len o.files_named t.settled is.there in
-    subst (λ (u : List (List ℕ)). Reads u (meaning_of c)) (sym o.words_are)
-    (subst (λ (d : Command). Reads (verb_text v ∷ (o.files ++ o.named)) d) (sym is.means) whole)
-
--- the numbers of a command are within their limits
-pub step_within : (v : Verb) (named : List (List ℕ)) (seen : Seen) → IsTaken v named seen → (1 ≤ unwrap_or seen.step 1) × (unwrap_or seen.step 1 ≤ 64)
-step_within v named seen t = number_between Step 1 64 1 named t.settings seen.step (λ text value h. h) (omega arith) (omega arith) t.settled.named_are (t.held_are Step)
-
-pub long_within : (v : Verb) (named : List (List ℕ)) (seen : Seen) → IsTaken v named seen → unwrap_or seen.long 1023 ≤ 1023
-long_within v named seen t = (number_between Long 0 1023 1023 named t.settings seen.long (λ text value h. h) (omega arith) (omega arith) t.settled.named_are (t.held_are Long)).1
-
-pub short_within : (v : Verb) (named : List (List ℕ)) (seen : Seen) → IsTaken v named seen → unwrap_or seen.short 1687 ≤ 2047
-short_within v named seen t = (number_between Short 0 2047 1687 named t.settings seen.short (λ text value h. h) (omega arith) (omega arith) t.settled.named_are (t.held_are Short)).1
-
-pub plan_within : (v : Verb) (named : List (List ℕ)) (seen : Seen) → IsTaken v named seen → IsPlan (record { workers = unwrap_or seen.workers 4; slab = unwrap_or seen.slab 4 })
-plan_within v named seen t =
-    let w = number_between Workers 1 64 4 named t.settings seen.workers (λ text value h. h) (omega arith) (omega arith) t.settled.named_are (t.held_are Workers) in
-    let s = number_between Slab 1 64 4 named t.settings seen.slab (λ text value h. h) (omega arith) (omega arith) t.settled.named_are (t.held_are Slab) in
-    record { some_workers = w.0; most_workers = w.1; some_slab = s.0; most_slab = s.1 }
-
-pub size_within : (v : Verb) (named : List (List ℕ)) (seen : Seen) → IsTaken v named seen → (1 ≤ unwrap_or seen.size 1) × (unwrap_or seen.size 1 ≤ 128)
-size_within v named seen t = number_between Size 1 128 1 named t.settings seen.size (λ text value h. h) (omega arith) (omega arith) t.settled.named_are (t.held_are Size)
-
-pub numbering_within : (v : Verb) (named : List (List ℕ)) (seen : Seen) → IsTaken v named seen → unwrap_or seen.first 0 ≤ 1
-numbering_within v named seen t = (number_between First 0 1 0 named t.settings seen.first (λ text value h. h) (omega arith) (omega arith) t.settled.named_are (t.held_are First)).1
-
--- what a command that was seen says
-pub step_seen : (v : Verb) (seen : Seen) (c : Found) → command_seen v seen ≡ Some c → (1 ≤ unwrap_or seen.step 1) × (unwrap_or seen.step 1 ≤ 64) → (1 ≤ step_of c) × (step_of c ≤ 64)
-step_seen Count seen c e h = let r = from_some_map _ seen.level c e in subst (λ (d : Found). (1 ≤ step_of d) × (step_of d ≤ 64)) r.2 h
-step_seen Mesh seen c e h = let r = from_some_map _ seen.level c e in subst (λ (d : Found). (1 ≤ step_of d) × (step_of d ≤ 64)) r.2 h
-step_seen Demo seen c e h =
-    let q = from_some_then (λ size. option_map (λ seed. found.Demo size seed (plan_seen seen)) seen.seed) seen.size c e in
-    let r = from_some_map (λ seed. found.Demo q.0 seed (plan_seen seen)) seen.seed c q.2 in
-    subst (λ (d : Found). (1 ≤ step_of d) × (step_of d ≤ 64)) r.2 (omega arith, omega arith)
-
-pub plan_is_seen : (v : Verb) (seen : Seen) (c : Found) → command_seen v seen ≡ Some c → IsPlan (plan_seen seen) → IfSome (plan_of c) IsPlan
-plan_is_seen Count seen c e h = let r = from_some_map _ seen.level c e in subst (λ (d : Found). IfSome (plan_of d) IsPlan) r.2 tt
-plan_is_seen Mesh seen c e h = let r = from_some_map _ seen.level c e in subst (λ (d : Found). IfSome (plan_of d) IsPlan) r.2 h
-plan_is_seen Demo seen c e h =
-    let q = from_some_then (λ size. option_map (λ seed. found.Demo size seed (plan_seen seen)) seen.seed) seen.size c e in
-    let r = from_some_map (λ seed. found.Demo q.0 seed (plan_seen seen)) seen.seed c q.2 in
-    subst (λ (d : Found). IfSome (plan_of d) IsPlan) r.2 h
-
-long_enough : (v : Verb) (ws : List (List ℕ)) → IsOpened v ws → file_count v < length ws
-long_enough v ws o = omega (arith, ap length o.words_are, length-append o.files o.named, o.files_len)
-
-pub source_seen : (v : Verb) (ws : List (List ℕ)) (seen : Seen) (c : Found) → IsOpened v ws → command_seen v seen ≡ Some c → (1 ≤ unwrap_or seen.size 1) × (unwrap_or seen.size 1 ≤ 128) → IsSourceWithin (source_of c) (length ws)
-source_seen Count ws seen c o e h = let r = from_some_map _ seen.level c e in subst (λ (d : Found). IsSourceWithin (source_of d) (length ws)) r.2 (long_enough Count ws o)
-source_seen Mesh ws seen c o e h = let r = from_some_map _ seen.level c e in let l = long_enough Mesh ws o in subst (λ (d : Found). IsSourceWithin (source_of d) (length ws)) r.2 (omega arith)
-source_seen Demo ws seen c o e h =
-    let q = from_some_then (λ size. option_map (λ seed. found.Demo size seed (plan_seen seen)) seen.seed) seen.size c e in
-    let r = from_some_map (λ seed. found.Demo q.0 seed (plan_seen seen)) seen.seed c q.2 in
-    subst (λ (d : Found). IsSourceWithin (source_of d) (length ws)) r.2 (subst (λ (s : Option ℕ). (1 ≤ unwrap_or s 1) × (unwrap_or s 1 ≤ 128)) q.1 h)
-
-pub output_seen : (v : Verb) (ws : List (List ℕ)) (seen : Seen) (c : Found) → IsOpened v ws → command_seen v seen ≡ Some c → IfSome (mesh_of c) (λ m. m.output < length ws)
-output_seen Count ws seen c o e = let r = from_some_map _ seen.level c e in subst (λ (d : Found). IfSome (mesh_of d) (λ m. m.output < length ws)) r.2 tt
-output_seen Mesh ws seen c o e = let r = from_some_map _ seen.level c e in subst (λ (d : Found). IfSome (mesh_of d) (λ m. m.output < length ws)) r.2 (long_enough Mesh ws o)
-output_seen Demo ws seen c o e =
-    let q = from_some_then (λ size. option_map (λ seed. found.Demo size seed (plan_seen seen)) seen.seed) seen.size c e in
-    let r = from_some_map (λ seed. found.Demo q.0 seed (plan_seen seen)) seen.seed c q.2 in
-    subst (λ (d : Found). IfSome (mesh_of d) (λ m. m.output < length ws)) r.2 tt
-
-pub numbering_seen : (v : Verb) (seen : Seen) (c : Found) → command_seen v seen ≡ Some c → unwrap_or seen.first 0 ≤ 1 → IfSome (mesh_of c) (λ m. m.numbering ≤ 1)
-numbering_seen Count seen c e h = let r = from_some_map _ seen.level c e in subst (λ (d : Found). IfSome (mesh_of d) (λ m. m.numbering ≤ 1)) r.2 tt
-numbering_seen Mesh seen c e h = let r = from_some_map _ seen.level c e in subst (λ (d : Found). IfSome (mesh_of d) (λ m. m.numbering ≤ 1)) r.2 h
-numbering_seen Demo seen c e h =
-    let q = from_some_then (λ size. option_map (λ seed. found.Demo size seed (plan_seen seen)) seen.seed) seen.size c e in
-    let r = from_some_map (λ seed. found.Demo q.0 seed (plan_seen seen)) seen.seed c q.2 in
-    subst (λ (d : Found). IfSome (mesh_of d) (λ m. m.numbering ≤ 1)) r.2 tt
 
 -- A list reads as one command at most, and words are bad at one place at most.
 pub one_command : (ws : List (List ℕ)) (c d : Command) → Reads ws c → Reads ws d → c ≡ d

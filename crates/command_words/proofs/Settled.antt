@@ -7,13 +7,13 @@ use Rattle.std.proofs.Math.Seq.{take-suc}
 use Rattle.std.proofs.lemmas.List.{get_or-drop, length-drop, take_all}
 use Rattle.std.proofs.lemmas.List.Sums.{sum_by-cons, sum_by-append}
 use Rattle.std.proofs.lemmas.List.Folds.{find-append, list_any-append, list_all-append}
-use Rattle.command_line.specs.Grammar.{Setting, ReadsSetting, IsValue, IsNumber, is_of, is_set, same_name, name_text, required}
+use Rattle.command_line.specs.Grammar.{Setting, Value, ReadsSetting, IsNumeric, IsValue, IsNumber, value_of, is_of, is_set, same_name, name_text, required}
 use Rattle.command_line.specs.declared.Name.{Name}
 use Rattle.command_line.specs.declared.Verb.{Verb}
-use Rattle.command_line.specs.declared.Verb.TheVariants.{Count, Mesh, Demo}
+use Rattle.command_line.specs.declared.Verb.TheVariants.{Count, Mesh, Demo, Audit, Probe, Stream}
 use Rattle.command_words.specs.declared.settings.Seen.{Seen}
-use Rattle.command_words.specs.Settings.{held, said, value_of, is_known, IsSettled, IsTaken, IsTakenAs, IsStuck, IsStop}
-use Rattle.command_words.proofs.NamedWords.{same_is, same_self, settings_once, sample_text, sample_value, sample_reads}
+use Rattle.command_words.specs.Settings.{held, said, natural, is_known, IsSettled, IsTaken, IsTakenAs, IsStuck, IsStop}
+use Rattle.command_words.proofs.NamedWords.{same_is, same_self, settings_once, number_of, sample_text, sample_value, sample_reads}
 
 -- lists that go with one another, place by place
 zip_push : (ws : List (List ℕ)) (ss : List Setting) (w : List ℕ) (s : Setting) → AllZip ReadsSetting ws ss → ReadsSetting w s → AllZip ReadsSetting (ws ++ w ∷ []) (ss ++ s ∷ [])
@@ -62,7 +62,7 @@ count_cons p s ss = sum_by-cons (λ x. cond (p x) 1 0) s ss
 count_append : (p : Setting → Bool) (ss ts : List Setting) → count_by p (ss ++ ts) ≡ count_by p ss + count_by p ts
 count_append p ss ts = sum_by-append (λ x. cond (p x) 1 0) ss ts
 
-abbrev value_in : Option Setting → Option ℤ
+abbrev value_in : Option Setting → Option Value
 value_in o = option_map (λ (s : Setting). s.value) o
 
 none_step : (b : Bool) (s : Setting) (o : Option Setting) (k c : ℕ) → c ≡ cond b 1 0 + k → (value_in o ≡ None → k ≡ 0) → value_in (cond b (Some s) o) ≡ None → c ≡ 0
@@ -127,7 +127,7 @@ pub settled_none : (v : Verb) → IsSettled v [] []
 settled_none v = record { named_are = tt; once = λ n. omega arith; known = refl }
 
 -- a setting whose name was not set before comes first or last
-or_swap : (b : Bool) (value : ℤ) (o : Option ℤ) → (b ≡ true → o ≡ None) → option_or (if b then Some value else None) o ≡ option_or o (if b then Some value else None)
+or_swap : (b : Bool) (value : Value) (o : Option Value) → (b ≡ true → o ≡ None) → option_or (if b then Some value else None) o ≡ option_or o (if b then Some value else None)
 or_swap true value o h = rw (h refl) refl
 or_swap false value None h = refl
 or_swap false value (Some z) h = refl
@@ -135,7 +135,7 @@ or_swap false value (Some z) h = refl
 pub said_first : (seen : Seen) (s : Setting) (n : Name) → held seen s.name ≡ None → option_or (said s n) (held seen n) ≡ option_or (held seen n) (said s n)
 said_first seen s n h = or_swap (same_name n s.name) s.value (held seen n) (λ t. ap (held seen) (same_is n s.name t) ∙ h)
 
-pub unset_none : (o : Option ℤ) → is_some o ≡ false → o ≡ None
+pub unset_none : (o : Option Value) → is_some o ≡ false → o ≡ None
 unset_none None h = refl
 unset_none (Some z) h = let t : true ≡ false = h in cc
 
@@ -146,7 +146,7 @@ pub taken_more : (v : Verb) (ws : List (List ℕ)) (seen next : Seen) (w : List 
 taken_more v ws seen next w t a = record {
   settings = t.settings ++ a.setting ∷ [];
   settled = settled_more v ws t.settings w a.setting t.settled a.word_reads a.known (sym (t.held_are a.setting.name) ∙ a.first);
-  held_are = λ n. a.next_held n ∙ ap (λ (o : Option ℤ). option_or o (said a.setting n)) (t.held_are n) ∙ sym (value_more n t.settings a.setting);
+  held_are = λ n. a.next_held n ∙ ap (λ (o : Option Value). option_or o (said a.setting n)) (t.held_are n) ∙ sym (value_more n t.settings a.setting);
 }
 
 -- Settings can go on until all that must be there are.
@@ -189,6 +189,9 @@ required_known : (v : Verb) → list_all (is_known v) (required v) ≡ true
 required_known Count = refl
 required_known Mesh = refl
 required_known Demo = refl
+required_known Audit = refl
+required_known Probe = refl
+required_known Stream = refl
 
 pub filled : (v : Verb) (ws : List (List ℕ)) (ss : List Setting) → IsSettled v ws ss → IsFilled v ws (required v)
 filled v ws ss h = fill v ws ss h (required v) (required_known v)
@@ -213,29 +216,40 @@ stuck_none v front x back seen ss t stuck h =
     (λ n. subst (λ (u : List Setting). count_by (is_of n) u ≤ 1) s.parts (h.once n))
     (subst (λ (u : List Setting). list_all (λ t. is_known v t.name) u ≡ true) s.parts h.known)
 
+-- what no command has is not set
+set_not : (v : Verb) (n : Name) (s : Setting) (b : Bool) → (b ≡ true → n ≡ s.name) → is_known v n ≡ false → is_known v s.name ≡ true → b ≡ false
+set_not v n s true same unknown known = let t : false ≡ true = sym unknown ∙ ap (is_known v) (same refl) ∙ known in cc
+set_not v n s false same unknown known = refl
+
+pub unknown_unset : (v : Verb) (n : Name) (ss : List Setting) → is_known v n ≡ false → list_all (λ t. is_known v t.name) ss ≡ true → is_set ss n ≡ false
+unknown_unset v n [] unknown known = refl
+unknown_unset v n (s ∷ ss) unknown known =
+    let first = set_not v n s (same_name n s.name) (same_is n s.name) unknown (left_of (is_known v s.name) (list_all (λ t. is_known v t.name) ss) known) in
+    rw first (unknown_unset v n ss unknown (right_of (is_known v s.name) (list_all (λ t. is_known v t.name) ss) known))
+
 -- what a name is set to stands behind it in a word
-pub record IsSaid (n : Name) (value : ℤ) : Type 0 where
+pub record IsSaid (n : Name) (value : Value) : Type 0 where
   pub text : List ℕ
   pub value_is : IsValue n text value
 
-said_step : (b : Bool) (n : Name) (value : ℤ) (s : Setting) (w : List ℕ) (o : Option Setting) → (b ≡ true → n ≡ s.name) → ReadsSetting w s → (value_in o ≡ Some value → IsSaid n value) → value_in (cond b (Some s) o) ≡ Some value → IsSaid n value
+said_step : (b : Bool) (n : Name) (value : Value) (s : Setting) (w : List ℕ) (o : Option Setting) → (b ≡ true → n ≡ s.name) → ReadsSetting w s → (value_in o ≡ Some value → IsSaid n value) → value_in (cond b (Some s) o) ≡ Some value → IsSaid n value
 said_step true n value s w o f r more h =
     let e : s.value ≡ value = cc in
-    record { text = r.text; value_is = subst (λ (m : Name). IsValue m r.text value) (sym (f refl)) (subst (λ (z : ℤ). IsValue s.name r.text z) e r.value_is) }
+    record { text = r.text; value_is = subst (λ (m : Name). IsValue m r.text value) (sym (f refl)) (subst (λ (z : Value). IsValue s.name r.text z) e r.value_is) }
 said_step false n value s w o f r more h = more h
 
-pub said_in : (ws : List (List ℕ)) (ss : List Setting) (n : Name) (value : ℤ) → AllZip ReadsSetting ws ss → value_of ss n ≡ Some value → IsSaid n value
+pub said_in : (ws : List (List ℕ)) (ss : List Setting) (n : Name) (value : Value) → AllZip ReadsSetting ws ss → value_of ss n ≡ Some value → IsSaid n value
 said_in [] [] n value r h = let t : None ≡ Some value = h in cc
 said_in [] (s ∷ ss) n value r h = absurd r
 said_in (w ∷ ws) [] n value r h = absurd r
 said_in (w ∷ ws) (s ∷ ss) n value r h = said_step (is_of n s) n value s w (find (is_of n) ss) (same_is n s.name) r.0 (said_in ws ss n value r.1) h
 
 -- The number that a name is set to, or its default, is within the name's limits.
-pub number_between : (n : Name) (low high default : ℕ) (ws : List (List ℕ)) (ss : List Setting) (o : Option ℕ) → ((text : List ℕ) (value : ℤ) → IsValue n text value → IsNumber low high text value) → low ≤ default → default ≤ high → AllZip ReadsSetting ws ss → option_map pos o ≡ value_of ss n → (low ≤ unwrap_or o default) × (unwrap_or o default ≤ high)
+pub number_between : (n : Name) (low high default : ℕ) (ws : List (List ℕ)) (ss : List Setting) (o : Option ℕ) → ((text : List ℕ) (value : ℤ) → IsNumeric n text value → IsNumber low high text value) → low ≤ default → default ≤ high → AllZip ReadsSetting ws ss → option_map natural o ≡ value_of ss n → (low ≤ unwrap_or o default) × (unwrap_or o default ≤ high)
 number_between n low high default ws ss None limits l h zip e = (l, h)
 number_between n low high default ws ss (Some k) limits l h zip e =
-    let s = said_in ws ss n (pos k) zip (sym e) in
-    let v = limits s.text (pos k) s.value_is in
+    let s = said_in ws ss n (natural k) zip (sym e) in
+    let v = limits s.text (pos k) (number_of n s.text (pos k) s.value_is) in
     let same : k ≡ v.0 = cc (v.4) in
     (omega (arith, same, v.1), omega (arith, same, v.2))
 

@@ -1,10 +1,10 @@
 -- Named words as they are read one after another.
-use Rattle.std.specs.Prelude.{◌≡◌, ℕ, ◌+◌, ◌<◌, ◌≤◌, Bool, true, ◌||◌, IsTrue, List, [], length, take, drop, count_by, Option, Some, None, option_map, if◌then◌else◌, find, slice_index_or, ℤ, pos}
+use Rattle.std.specs.Prelude.{◌≡◌, ℕ, ◌+◌, ◌<◌, ◌≤◌, Bool, true, ◌||◌, IsTrue, List, [], length, take, drop, count_by, Option, Some, None, option_map, if◌then◌else◌, slice_index_or, ℤ, pos}
 use Rattle.std.specs.List.{AllZip, list_all}
 use Rattle.std.specs.Option.{option_or}
-use Rattle.command_line.specs.Grammar.{Setting, ReadsSetting, is_among, is_of, same_name, required, optional}
+use Rattle.command_line.specs.Grammar.{Setting, ReadsSetting, Value, Number, Point, value_of, is_among, is_of, same_name, required, optional}
 use Rattle.command_line.specs.declared.Name.{Name}
-use Rattle.command_line.specs.declared.Name.TheVariants.{Level, Below, Step, Long, Short, Workers, Slab, First, Units, Size, Seed}
+use Rattle.command_line.specs.declared.Name.TheVariants.{Level, Below, Step, Long, Short, Workers, Slab, First, Units, Faces, At, Size, Seed}
 use Rattle.command_line.specs.declared.Verb.{Verb}
 use Rattle.command_words.specs.declared.settings.Setting.{Setting as Choice}
 use Rattle.command_words.specs.declared.settings.Setting.TheVariants as choice
@@ -14,41 +14,47 @@ use Rattle.command_words.specs.declared.settings.Seen.{Seen}
 abbrev pub units_value : Bool → ℤ
 units_value world = if world then pos 1 else pos 0
 
+abbrev pub natural : ℕ → Value
+natural n = Number (pos n)
+
+abbrev pub is_yes : Bool → Option Value
+is_yes set = if set then Some (natural 1) else None
+
 -- what a named word sets
 abbrev pub setting_of : Choice → Setting
-setting_of (choice.Level twice) = record { name = Level; value = twice }
-setting_of choice.Below = record { name = Below; value = pos 1 }
-setting_of (choice.Step n) = record { name = Step; value = pos n }
-setting_of (choice.Long n) = record { name = Long; value = pos n }
-setting_of (choice.Short n) = record { name = Short; value = pos n }
-setting_of (choice.Workers n) = record { name = Workers; value = pos n }
-setting_of (choice.Slab n) = record { name = Slab; value = pos n }
-setting_of (choice.First n) = record { name = First; value = pos n }
-setting_of (choice.World world) = record { name = Units; value = units_value world }
-setting_of (choice.Size n) = record { name = Size; value = pos n }
-setting_of (choice.Seed n) = record { name = Seed; value = pos n }
+setting_of (choice.Level twice) = record { name = Level; value = Number twice }
+setting_of choice.Below = record { name = Below; value = natural 1 }
+setting_of (choice.Step n) = record { name = Step; value = natural n }
+setting_of (choice.Long n) = record { name = Long; value = natural n }
+setting_of (choice.Short n) = record { name = Short; value = natural n }
+setting_of (choice.Workers n) = record { name = Workers; value = natural n }
+setting_of (choice.Slab n) = record { name = Slab; value = natural n }
+setting_of (choice.First n) = record { name = First; value = natural n }
+setting_of (choice.World world) = record { name = Units; value = Number (units_value world) }
+setting_of choice.Faces = record { name = Faces; value = natural 1 }
+setting_of (choice.At p) = record { name = At; value = Point p }
+setting_of (choice.Size n) = record { name = Size; value = natural n }
+setting_of (choice.Seed n) = record { name = Seed; value = natural n }
 
 -- what a name is set to by what was seen
-abbrev pub held : Seen → Name → Option ℤ
-held seen Level = seen.level
-held seen Below = if seen.below then Some (pos 1) else None
-held seen Step = option_map pos seen.step
-held seen Long = option_map pos seen.long
-held seen Short = option_map pos seen.short
-held seen Workers = option_map pos seen.workers
-held seen Slab = option_map pos seen.slab
-held seen First = option_map pos seen.first
-held seen Units = option_map units_value seen.world
-held seen Size = option_map pos seen.size
-held seen Seed = option_map pos seen.seed
+abbrev pub held : Seen → Name → Option Value
+held seen Level = option_map Number seen.level
+held seen Below = is_yes seen.below
+held seen Step = option_map natural seen.step
+held seen Long = option_map natural seen.long
+held seen Short = option_map natural seen.short
+held seen Workers = option_map natural seen.workers
+held seen Slab = option_map natural seen.slab
+held seen First = option_map natural seen.first
+held seen Units = option_map (λ world. Number (units_value world)) seen.world
+held seen Faces = is_yes seen.faces
+held seen At = option_map Point seen.at
+held seen Size = option_map natural seen.size
+held seen Seed = option_map natural seen.seed
 
 -- what a name is set to by one setting
-abbrev pub said : Setting → Name → Option ℤ
+abbrev pub said : Setting → Name → Option Value
 said s n = if same_name n s.name then Some s.value else None
-
--- what a name is set to by a list
-abbrev pub value_of : List Setting → Name → Option ℤ
-value_of settings n = option_map (λ (s : Setting). s.value) (find (is_of n) settings)
 
 -- whether a command has the name
 abbrev pub is_known : Verb → Name → Bool

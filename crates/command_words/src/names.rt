@@ -4,7 +4,7 @@ ghost use Rattle.command_line.specs.Grammar.{name_text as name_text_lem};
 use command_line::Name;
 
 /// All names of named words, in the order of their numbers.
-pub const NAMES: [Name; 11] = [
+pub const NAMES: [Name; 13] = [
     Name::Level,
     Name::Below,
     Name::Step,
@@ -14,6 +14,8 @@ pub const NAMES: [Name; 11] = [
     Name::Slab,
     Name::First,
     Name::Units,
+    Name::Faces,
+    Name::At,
     Name::Size,
     Name::Seed,
 ];
@@ -32,6 +34,8 @@ pub fn name_text(name: Name) -> &'static [u8]
         Name::Slab => b"slab=",
         Name::First => b"first=",
         Name::Units => b"units=",
+        Name::Faces => b"faces=",
+        Name::At => b"at=",
         Name::Size => b"size=",
         Name::Seed => b"seed=",
     }

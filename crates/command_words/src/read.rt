@@ -1,6 +1,7 @@
 ghost use Rattle.std.specs.Prelude.{◌≡◌, ◌<◌, ◌≤◌, List, ℕ, ℤ, length, IfOk, IfErr, IfSome, IfNone, unwrap_or};
 ghost use Rattle.command_line.specs.Grammar.{Reads, IsBadPlace, IsPlan, Command as Meaning};
-ghost use Rattle.command_words.specs.Commands.{is_name as is_name_lem, AreNames, IsBadName, IsSourceWithin, command_seen, source_of, step_of, mesh_of, plan_of, meaning_of};
+ghost use Rattle.command_line.specs.declared.Verb.TheVariants as verb;
+ghost use Rattle.command_words.specs.Commands.{is_name as is_name_lem, AreNames, IsBadName, IsSourceWithin, command_seen, source_of, step_of, mesh_of, probe_of, plan_of, IsNear, meaning_of};
 
 use crate::command::Command;
 use crate::settings::{Seen, read_settings};
@@ -28,6 +29,43 @@ fn bad_name(words: &Words, count: usize) -> Option<usize>
     None
 }
 
+fn mesh_by(seen: &Seen) -> Option<Command>
+    requires long { unwrap_or seen.now.long 1023 ≤ 1023 }
+    requires short { unwrap_or seen.now.short 1687 ≤ 2047 }
+    ensures { result ≡ command_seen verb.Mesh seen.now }
+{
+    Some(Command::Mesh {
+        input: 1,
+        output: 2,
+        level: seen.level?,
+        below: seen.below,
+        step: seen.step.unwrap_or(1),
+        shares: seen.shares(),
+        plan: seen.plan(),
+        numbering: seen.first.unwrap_or(0),
+        world: seen.world.unwrap_or(false),
+        faces: seen.faces,
+    })
+}
+
+fn stream_by(seen: &Seen) -> Option<Command>
+    requires long { unwrap_or seen.now.long 1023 ≤ 1023 }
+    requires short { unwrap_or seen.now.short 1687 ≤ 2047 }
+    ensures { result ≡ command_seen verb.Stream seen.now }
+{
+    Some(Command::Stream {
+        input: 1,
+        output: 2,
+        level: seen.level?,
+        below: seen.below,
+        step: seen.step.unwrap_or(1),
+        shares: seen.shares(),
+        plan: seen.plan(),
+        numbering: seen.first.unwrap_or(0),
+        world: seen.world.unwrap_or(false),
+    })
+}
+
 // The command of a verb, by what its named words set. None: a word that must be there is missing.
 fn command_by(verb: Verb, seen: &Seen) -> Option<Command>
     requires long { unwrap_or seen.now.long 1023 ≤ 1023 }
@@ -43,16 +81,16 @@ fn command_by(verb: Verb, seen: &Seen) -> Option<Command>
             below,
             step,
         }),
-        Verb::Mesh => Some(Command::Mesh {
+        Verb::Mesh => mesh_by(seen),
+        Verb::Stream => stream_by(seen),
+        Verb::Audit => Some(Command::Audit { input: 1 }),
+        Verb::Probe => Some(Command::Probe {
             input: 1,
-            output: 2,
             level: seen.level?,
             below,
             step,
             shares: seen.shares(),
-            plan: seen.plan(),
-            numbering: seen.first.unwrap_or(0),
-            world: seen.world.unwrap_or(false),
+            at: seen.at?,
         }),
         Verb::Demo => Some(Command::Demo {
             size: seen.size?,
@@ -77,6 +115,7 @@ pub fn read_words(words: &Words) -> Result<Command, u64>
     ensures step { IfOk result (λ c. (1 ≤ step_of c) × (step_of c ≤ 64)) }
     ensures plan { IfOk result (λ c. IfSome (plan_of c) IsPlan) }
     ensures numbering { IfOk result (λ c. IfSome (mesh_of c) (λ m. m.numbering ≤ 1)) }
+    ensures point { IfOk result (λ c. IfSome (probe_of c) (λ p. IsNear p.at)) }
     ensures place { IfErr result (λ place. IsBadPlace words.now place) }
 {
     let Some(verb) = verb_of(words) else {

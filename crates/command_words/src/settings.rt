@@ -1,18 +1,20 @@
 ghost use Rattle.std.specs.Prelude.{◌≡◌, ◌≤◌, ℤ, Some, None, IfSome, IfNone, IfOk, IfErr, length, drop, option_map, is_some, unwrap_or};
 ghost use Rattle.std.specs.Option.{option_or};
 ghost use Rattle.command_line.specs.declared.Name.{Name as NameValue};
-ghost use Rattle.command_line.specs.Grammar.{Setting as Meaning, ReadsSetting, IsValue};
+ghost use Rattle.command_line.specs.Grammar.{Setting as Meaning, ReadsSetting, IsValue, Number, Point};
+ghost use Rattle.definitions.specs.declared.Place.{Place as PlaceValue};
 ghost use Rattle.command_words.specs.Settings.{setting_of, held, said, IsTakenAs, IsStuck, IsTaken, IsStop};
 
 use crate::ends::after_start;
 use crate::names::{NAMES, name_text};
 use crate::numbers::{any_number, level, number_within};
+use crate::points::point;
 use crate::units::is_world;
 use crate::verbs::is_known;
 use command_line::{Name, Plan, Verb};
 use samples::Level;
 use snap_rule::Shares;
-use st_base::Words;
+use st_base::{Place, Words};
 
 /// A named word, read.
 #[derive(Clone, Copy)]
@@ -26,6 +28,8 @@ pub enum Setting {
     Slab(u32),
     First(u32),
     World(bool),
+    Faces,
+    At(Place),
     Size(u32),
     Seed(u64),
 }
@@ -42,6 +46,8 @@ pub struct Seen {
     pub slab: Option<u32>,
     pub first: Option<u32>,
     pub world: Option<bool>,
+    pub faces: bool,
+    pub at: Option<Place>,
     pub size: Option<u32>,
     pub seed: Option<u64>,
 }
@@ -50,7 +56,8 @@ pub struct Seen {
 fn read_value(name: Name, text: &[u8]) -> Option<Setting>
     ensures name { IfSome result (λ s. (setting_of s).name ≡ name) }
     ensures text { IfSome result (λ s. IsValue name text.now (setting_of s).value) }
-    ensures found { (value : ℤ) → IsValue name text.now value → option_map setting_of result ≡ Some (record { name = name; value = value }) }
+    ensures number { (value : ℤ) → IsValue name text.now (Number value) → option_map setting_of result ≡ Some (record { name = name; value = Number value }) }
+    ensures point { (p : PlaceValue) → IsValue name text.now (Point p) → option_map setting_of result ≡ Some (record { name = name; value = Point p }) }
 {
     match name {
         Name::Level => Some(Setting::Level(level(text)?)),
@@ -63,6 +70,9 @@ fn read_value(name: Name, text: &[u8]) -> Option<Setting>
         Name::Slab => Some(Setting::Slab(number_within(text, 1, 64)?)),
         Name::First => Some(Setting::First(number_within(text, 0, 1)?)),
         Name::Units => Some(Setting::World(is_world(text)?)),
+        Name::Faces if text == b"yes".as_slice() => Some(Setting::Faces),
+        Name::Faces => None,
+        Name::At => Some(Setting::At(point(text)?)),
         Name::Size => Some(Setting::Size(number_within(text, 1, 128)?)),
         Name::Seed => Some(Setting::Seed(any_number(text)?)),
     }
@@ -96,6 +106,8 @@ impl Setting {
             Setting::Slab(_) => Name::Slab,
             Setting::First(_) => Name::First,
             Setting::World(_) => Name::Units,
+            Setting::Faces => Name::Faces,
+            Setting::At(_) => Name::At,
             Setting::Size(_) => Name::Size,
             Setting::Seed(_) => Name::Seed,
         }
@@ -117,6 +129,8 @@ impl Seen {
             slab: None,
             first: None,
             world: None,
+            faces: false,
+            at: None,
             size: None,
             seed: None,
         }
@@ -136,6 +150,8 @@ impl Seen {
             Name::Slab => self.slab.is_some(),
             Name::First => self.first.is_some(),
             Name::Units => self.world.is_some(),
+            Name::Faces => self.faces,
+            Name::At => self.at.is_some(),
             Name::Size => self.size.is_some(),
             Name::Seed => self.seed.is_some(),
         }
@@ -156,6 +172,8 @@ impl Seen {
             Setting::Slab(size) => seen.slab = Some(size),
             Setting::First(first) => seen.first = Some(first),
             Setting::World(world) => seen.world = Some(world),
+            Setting::Faces => seen.faces = true,
+            Setting::At(at) => seen.at = Some(at),
             Setting::Size(size) => seen.size = Some(size),
             Setting::Seed(seed) => seen.seed = Some(seed),
         }

@@ -28,6 +28,15 @@ pub fn verb_of(words: &Words) -> Option<Verb>
     if is_word(words, 0, b"demo") {
         return Some(Verb::Demo);
     }
+    if is_word(words, 0, b"audit") {
+        return Some(Verb::Audit);
+    }
+    if is_word(words, 0, b"probe") {
+        return Some(Verb::Probe);
+    }
+    if is_word(words, 0, b"stream") {
+        return Some(Verb::Stream);
+    }
     None
 }
 
@@ -36,8 +45,8 @@ pub fn file_count(verb: Verb) -> usize
     ensures { result ≡ file_count_lem verb }
 {
     match verb {
-        Verb::Count => 1,
-        Verb::Mesh => 2,
+        Verb::Count | Verb::Audit | Verb::Probe => 1,
+        Verb::Mesh | Verb::Stream => 2,
         Verb::Demo => 0,
     }
 }
@@ -52,9 +61,18 @@ pub fn is_known(verb: Verb, name: Name) -> bool
             _ => false,
         },
         Verb::Mesh => match name {
-            Name::Size | Name::Seed => false,
+            Name::At | Name::Size | Name::Seed => false,
             _ => true,
         },
+        Verb::Stream => match name {
+            Name::Faces | Name::At | Name::Size | Name::Seed => false,
+            _ => true,
+        },
+        Verb::Probe => match name {
+            Name::Level | Name::At | Name::Below | Name::Step | Name::Long | Name::Short => true,
+            _ => false,
+        },
+        Verb::Audit => false,
         Verb::Demo => match name {
             Name::Size | Name::Seed | Name::Workers | Name::Slab => true,
             _ => false,

@@ -1,9 +1,9 @@
 //! What the program does with its words, over files of the folder that the tests run in.
-use crate::rows::{cut, field, number};
 use desk_std::{StdDesk, System};
 use program::carry_out;
 use st_base::{Desk, Port};
 use std::env::{Env, FillError};
+use table_lines::{cut, field, number};
 
 /// A volume of one sample of 1.
 const ONE: &[u8] =
@@ -42,7 +42,8 @@ impl Env for Line {
 }
 
 // The words, the status, and how standard output and standard error begin; a semicolon stands for a newline, and
-// where nothing is wanted nothing is there. `one.mha` and `in.node` hold the volume at first.
+// where nothing is wanted nothing is there. `one.mha` and `in.node` hold the volume at first; later rows read what earlier
+// ones wrote.
 const LINES: &[u8] = b"\
 --help | 0 | stuff: tetrahedral meshes of volumes, by isosurface stuffing;;  mesh IN OUT level=L |
 --version | 0 | stuff 0.1.0; |
@@ -53,6 +54,9 @@ help | 2 | | stuff: bad words at 0;
 --Help | 2 | | stuff: bad words at 0;
 --versio | 2 | | stuff: bad words at 0;
  | 2 | | stuff: bad words at 0;
+audit --help | 7 | | stuff: read fault;
+probe --help | 2 | | stuff: bad words at 2;
+stream --version | 2 | | stuff: bad words at 2;
 count one.mha | 2 | | stuff: bad words at 2;
 count one.mha level=0.5 | 0 | plus 1 zero 0 minus 34; |
 count one.mha level=0.5 step=1 below=yes | 0 | plus 0 zero 0 minus 35; |
@@ -64,6 +68,18 @@ mesh one.mha one level=0.5 workers=2 slab=1 | 0 | nodes 15;tetrahedra 24;least +
 mesh one.mha one level=0.5 first=1 units=world | 0 | nodes 15;tetrahedra 24;least +1/4 tetrahedron 1 edge 2 8; |
 mesh one.mha one level=0.5 units=index first=2 | 2 | | stuff: bad words at 5;
 mesh one.mha no/one level=0.5 | 8 | | stuff: write fault: node;
+audit one | 0 | sound nodes 15 tetrahedra 24 boundary 24; |
+mesh one.mha all level=0.5 faces=yes | 0 | nodes 15;tetrahedra 24;least +1/4 tetrahedron 0 edge 1 7; |
+audit all | 0 | sound nodes 15 tetrahedra 24 boundary 24; |
+count all.face level=0.5 | 3 | | stuff: bad header line at byte 0;
+count all.neigh level=0.5 | 3 | | stuff: bad header line at byte 0;
+stream one.mha other level=0.5 first=1 | 0 | nodes 15;tetrahedra 24;least +1/4 tetrahedron 1 edge 2 8; |
+audit other | 0 | sound nodes 15 tetrahedra 24 boundary 24; |
+stream one.mha other level=0.5 faces=yes | 2 | | stuff: bad words at 4;
+probe one.mha at=0,0,-4096 level=0.5 | 0 | tetrahedron 0 weights 44894461952 0 0 0; |
+probe one.mha level=0.5 at=0,0,-4097 | 0 | outside; |
+audit in | 11 | | stuff: bad mesh file: node;
+audit none | 7 | | stuff: read fault;
 count one.node level=0.5 | 3 | | stuff: bad header line at byte 0;
 count one.ele level=0.5 | 3 | | stuff: bad header line at byte 0;
 count in.node level=0.5 | 0 | plus 1 zero 0 minus 34; |
@@ -100,11 +116,11 @@ fn carries_out_its_words(rt: HostRuntime) {
     assert!(rt; desk.open_output(Port::Node, b"in.node").is_ok());
     assert_eq!(rt; desk.write(Port::Node, ONE), Ok(ONE.len()));
     assert!(rt; desk.finish(Port::Node).is_ok());
-    let mut rest = LINES;
-    let mut n = 0u32;
-    while !rest.is_empty() {
-        let (row, behind) = cut(rest, b'\n');
-        n = n.wrapping_add(1);
+    for (n, row) in LINES
+        .trim_ascii_end()
+        .split(|byte| *byte == b'\n')
+        .enumerate()
+    {
         let (text, fields) = field(row);
         let (status, fields) = field(fields);
         let (report, trouble) = field(fields);
@@ -119,9 +135,8 @@ fn carries_out_its_words(rt: HostRuntime) {
             &mut printed,
             &mut told,
         );
-        assert_eq!(rt; u64::from(ended.code()), number(status), "in row {n}");
+        assert_eq!(rt; u32::from(ended.code()), number(status), "in row {n}");
         assert!(rt; begins(&printed, report), "in row {n}");
         assert!(rt; begins(&told, trouble.trim_ascii()), "in row {n}");
-        rest = behind;
     }
 }

@@ -1,12 +1,12 @@
 //! The desk over files and streams that are interrupted, fail, or take nothing.
 ghost use Rattle.std.specs.Prelude.{⊤};
 
-use crate::rows::{cut, field, number};
 use desk_std::{FileSystem, StdDesk};
 use st_base::{Desk, Failed, Port};
 use std::cell::Cell;
 use std::fs::OpenOptions;
 use std::io::{self, Error, ErrorKind, Read, Write};
+use table_lines::{field, number};
 
 /// A call that is made on a file or a stream.
 #[derive(Clone, Copy, PartialEq, Eq)]
@@ -121,7 +121,7 @@ impl FileSystem for FakeFiles {
 }
 
 // The call on the desk, the call below it, how often that one is interrupted, what it comes to, and the answer.
-const CALLS: &[u8] = b"\
+const CALLS: &str = "\
 input  | open  | 0    | good    | ok
 input  | open  | 1    | good    | ok
 input  | open  | 2    | good    | ok
@@ -237,21 +237,16 @@ fn answer(call: &[u8], plan: Plan) -> &'static [u8] {
 
 #[test]
 fn tries_again_and_fails(rt: HostRuntime) {
-    let mut rest = CALLS;
-    let mut n = 0u32;
-    while !rest.is_empty() {
-        let (row, behind) = cut(rest, b'\n');
-        n = n.wrapping_add(1);
-        let (call, fields) = field(row);
+    for row in CALLS.lines() {
+        let (call, fields) = field(row.as_bytes());
         let (below, fields) = field(fields);
         let (interruptions, fields) = field(fields);
         let (end, wanted) = field(fields);
         let plan = Plan {
             call: call_of(below),
-            interruptions: number(interruptions),
+            interruptions: u64::from(number(interruptions)),
             end: end_of(end),
         };
-        assert!(rt; answer(call, plan) == wanted.trim_ascii(), "in row {n}");
-        rest = behind;
+        assert!(rt; answer(call, plan) == wanted.trim_ascii(), "in {row}");
     }
 }

@@ -1,7 +1,7 @@
 //! The desk over files, in the folder that the tests run in.
-use crate::rows::{cut, field};
 use desk_std::{StdDesk, System};
 use st_base::{Desk, Failed, Port};
+use table_lines::field;
 
 // A name, and a text that is written under it and read back. A later row of the same name has a shorter text.
 const FILES: &[u8] = b"\
@@ -23,11 +23,11 @@ no folder/a.node
 
 #[test]
 fn reads_back_what_it_wrote(rt: HostRuntime) {
-    let mut rest = FILES;
-    let mut n = 0u32;
-    while !rest.is_empty() {
-        let (row, behind) = cut(rest, b'\n');
-        n = n.wrapping_add(1);
+    for (n, row) in FILES
+        .trim_ascii_end()
+        .split(|byte| *byte == b'\n')
+        .enumerate()
+    {
         let (name, text) = field(row);
         let text = text.trim_ascii();
         let own = rt.clone().expect(&rt, "memory");
@@ -40,20 +40,18 @@ fn reads_back_what_it_wrote(rt: HostRuntime) {
         assert_eq!(rt; desk.read(&mut into), Ok(text.len()), "in row {n}");
         assert!(rt; into.starts_with(text), "in row {n}");
         assert_eq!(rt; desk.read(&mut into), Ok(0), "in row {n}");
-        rest = behind;
     }
 }
 
 #[test]
 fn refuses_names(rt: HostRuntime) {
-    let mut rest = NAMES;
-    let mut n = 0u32;
-    while !rest.is_empty() {
-        let (name, behind) = cut(rest, b'\n');
-        n = n.wrapping_add(1);
+    for (n, name) in NAMES
+        .trim_ascii_end()
+        .split(|byte| *byte == b'\n')
+        .enumerate()
+    {
         let own = rt.clone().expect(&rt, "memory");
         let mut desk = StdDesk::new(System::new(own), rt.stdout(), rt.stderr());
         assert_eq!(rt; desk.open_input(name), Err(Failed), "in row {n}");
-        rest = behind;
     }
 }

@@ -3,9 +3,10 @@ ghost use Rattle.std.specs.Prelude.{◌≡◌, true};
 ghost use Rattle.st_base.specs.Desk.{IsStart};
 ghost use Rattle.desk_mem.specs.Meanings.{mem_state};
 
-use crate::rows::{cut, field, number, port_of};
+use crate::rows::port_of;
 use desk_mem::{MemDesk, SteadyDesk};
 use st_base::{Desk, Failed, Port};
+use table_lines::{field, number};
 
 // What a caller with a desk of its own type needs: a start, and that a worker may hold the desk.
 fn begun<D: Desk + Send>(desk: D) -> D
@@ -15,9 +16,37 @@ fn begun<D: Desk + Send>(desk: D) -> D
     desk
 }
 
+// What the rows of both tables begin with: a name, how many bytes a call moves at most, after how many bytes calls
+// fail, what is refused, and what is noted; and what stands behind that.
+#[derive(Drop)]
+struct Row<'a> {
+    name: &'a [u8],
+    most: usize,
+    limit: u64,
+    call: &'a [u8],
+    wanted: &'a [u8],
+    rest: &'a [u8],
+}
+
+fn row_of(row: &[u8]) -> Row<'_> {
+    let (name, rest) = field(row);
+    let (most, rest) = field(rest);
+    let (limit, rest) = field(rest);
+    let (call, rest) = field(rest);
+    let (wanted, rest) = field(rest);
+    Row {
+        name,
+        most: number(most) as usize,
+        limit: u64::from(number(limit)),
+        call,
+        wanted,
+        rest,
+    }
+}
+
 // The name, how many bytes a read moves at most, after how many bytes reads fail, what is refused, what four reads of
 // at most four bytes give, and how many calls failed. `a` holds `later`, and `b` holds `other`.
-const READS: &[u8] = b"\
+const READS: &str = "\
 a | 9 | 9 |       | late r - -         | 0
 b | 9 | 9 |       | othe r - -         | 0
 a | 2 | 9 |       | la te r -          | 0
@@ -73,31 +102,20 @@ fn refuse(desk: &mut MemDesk, port: Port, call: &[u8])
 
 #[test]
 fn reads_what_it_holds(rt: HostRuntime) {
-    let mut rest = READS;
-    let mut n = 0u32;
-    while !rest.is_empty() {
-        let (row, behind) = cut(rest, b'\n');
-        n = n.wrapping_add(1);
-        let (name, fields) = field(row);
-        let (most, fields) = field(fields);
-        let (limit, fields) = field(fields);
-        let (call, fields) = field(fields);
-        let (wanted, faults) = field(fields);
+    for text in READS.lines() {
+        let row = row_of(text.as_bytes());
         let mut desk = begun(MemDesk::new(rt.alloc()));
         assert!(rt; desk.put_input(b"a", b"first").is_ok());
         assert!(rt; desk.put_input(b"b", b"other").is_ok());
         assert!(rt; desk.put_input(b"a", b"later").is_ok());
-        desk.at_most((number(most) as usize).max(1));
-        desk.fail_input_after(number(limit));
-        refuse(&mut desk, Port::Node, call);
+        desk.at_most(row.most.max(1));
+        desk.fail_input_after(row.limit);
+        refuse(&mut desk, Port::Node, row.call);
         let mut log = Vec::new(rt.alloc());
-        assert!(rt; read_all(&mut desk, name, &mut log), "in row {n}");
-        assert!(rt; log.trim_ascii() == wanted, "in row {n}");
-        assert_eq!(rt;
-            desk.input_faults(),
-            number(faults.trim_ascii()),
-            "in row {n}"
-        );
+        assert!(rt; read_all(&mut desk, row.name, &mut log), "in {text}");
+        assert!(rt; log.trim_ascii() == row.wanted, "in {text}");
+        let faults = number(row.rest.trim_ascii());
+        assert_eq!(rt; desk.input_faults(), u64::from(faults), "in {text}");
         for port in [
             Port::Node,
             Port::Ele,
@@ -106,15 +124,14 @@ fn reads_what_it_holds(rt: HostRuntime) {
             Port::Face,
             Port::Neigh,
         ] {
-            assert_eq!(rt; desk.faults(port), 0, "in row {n}");
+            assert_eq!(rt; desk.faults(port), 0, "in {text}");
         }
-        rest = behind;
     }
 }
 
 // The port, how many bytes a write moves at most, after how many bytes writes fail, what is refused, how the opening,
 // two writes of `abcd` and the finishing end, the text, and how many calls failed.
-const WRITES: &[u8] = b"\
+const WRITES: &str = "\
 node    | 9 | 9 |        | ok 4 4 ok             | abcdabcd | 0
 ele     | 9 | 9 |        | ok 4 4 ok             | abcdabcd | 0
 report  | 9 | 9 |        | ok 4 4 ok             | abcdabcd | 0
@@ -196,33 +213,21 @@ fn open_and_write<D: Desk>(desk: &mut D, port: Port, log: &mut Vec<u8>) -> bool
 
 #[test]
 fn keeps_what_is_written(rt: HostRuntime) {
-    let mut rest = WRITES;
-    let mut n = 0u32;
-    while !rest.is_empty() {
-        let (row, behind) = cut(rest, b'\n');
-        n = n.wrapping_add(1);
-        let (name, fields) = field(row);
-        let (most, fields) = field(fields);
-        let (limit, fields) = field(fields);
-        let (call, fields) = field(fields);
-        let (wanted, fields) = field(fields);
-        let (text, faults) = field(fields);
-        let port = port_of(name);
+    for text in WRITES.lines() {
+        let row = row_of(text.as_bytes());
+        let (written, faults) = field(row.rest);
+        let port = port_of(row.name);
         let mut desk = MemDesk::new(rt.alloc());
-        desk.at_most((number(most) as usize).max(1));
-        desk.fail_output_after(port, number(limit));
-        refuse(&mut desk, port, call);
+        desk.at_most(row.most.max(1));
+        desk.fail_output_after(port, row.limit);
+        refuse(&mut desk, port, row.call);
         let mut log = Vec::new(rt.alloc());
-        assert!(rt; open_and_write(&mut desk, port, &mut log), "in row {n}");
-        assert!(rt; log.trim_ascii() == wanted, "in row {n}");
-        assert!(rt; desk.text(port) == text, "in row {n}");
-        assert_eq!(rt;
-            desk.faults(port),
-            number(faults.trim_ascii()),
-            "in row {n}"
-        );
-        assert_eq!(rt; desk.input_faults(), 0, "in row {n}");
-        rest = behind;
+        assert!(rt; open_and_write(&mut desk, port, &mut log), "in {text}");
+        assert!(rt; log.trim_ascii() == row.wanted, "in {text}");
+        assert!(rt; desk.text(port) == written, "in {text}");
+        let faults = number(faults.trim_ascii());
+        assert_eq!(rt; desk.faults(port), u64::from(faults), "in {text}");
+        assert_eq!(rt; desk.input_faults(), 0, "in {text}");
     }
 }
 

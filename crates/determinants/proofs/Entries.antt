@@ -1,7 +1,7 @@
 -- Tests of small numbers of 32 bits: as words they are themselves.
 use Rattle.std.proofs.Common.{◌≡◌, ◌<◌, ◌≤◌, ◌^◌, ◌↔◌, Bool, ◌&&◌, IsTrue, unsigned_abs, ℤ, to_z, of_z, w32, arith, sym, subst}
 use Rattle.std.proofs.lemmas.Int.{to_z-of_z, fits_signed_from_abs}
-use Rattle.lattice_laws.proofs.Booleans.{both_true, and_true}
+use Rattle.std.proofs.lemmas.Bool.{and_parts, and_from}
 use Rattle.exact.specs.Dominance.{Above4}
 
 -- a number as 32 bits give it back
@@ -26,9 +26,9 @@ above_words a b c d t ha hb hc hd e =
 pub four_together : {A B C D : Type 0} (p q r s : Bool) → IsTrue p ↔ A → IsTrue q ↔ B → IsTrue r ↔ C → IsTrue s ↔ D → IsTrue (((p && q) && r) && s) ↔ (A × B × C × D)
 four_together p q r s a b c d = (
   λ h.
-      let x = both_true ((p && q) && r) s h in
-      let y = both_true (p && q) r x.0 in
-      let z = both_true p q y.0 in
+      let x = and_parts ((p && q) && r) s h in
+      let y = and_parts (p && q) r x.0 in
+      let z = and_parts p q y.0 in
       (a.0 z.0, b.0 z.1, c.0 y.1, d.0 x.1),
-  λ h. and_true ((p && q) && r) s (and_true (p && q) r (and_true p q (a.1 h.0) (b.1 h.1)) (c.1 h.2)) (d.1 h.3),
+  λ h. and_from ((p && q) && r) s (and_from (p && q) r (and_from p q (a.1 h.0) (b.1 h.1)) (c.1 h.2)) (d.1 h.3),
 )

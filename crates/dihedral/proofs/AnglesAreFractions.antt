@@ -1,22 +1,17 @@
 -- The angles of a tetrahedron with a volume are fractions.
-use Rattle.std.proofs.Common.{◌≡◌, ℕ, zero, suc, ◌<◌, ◌≤◌, arith, refl, sym, subst, List, pos, ◌<ℤ◌, unsigned_abs}
+use Rattle.std.proofs.Common.{◌≡◌, ℕ, zero, suc, ◌<◌, ◌≤◌, arith, sym, subst, List, pos, ◌<ℤ◌, unsigned_abs}
 use Rattle.std.specs.Prelude.{All}
 use Rattle.std.proofs.Math.Nat.{one-le-mul}
 use Rattle.std.proofs.lemmas.List.Elements.{All-from_recursion}
 use Rattle.definitions.specs.declared.Place.{Place}
-use Rattle.definitions.specs.Soundness.{corner_places}
 use Rattle.definitions.specs.Vectors.{dot, det, place_at}
-use Rattle.definitions.specs.Angles.{edge_cosine, angles_of}
+use Rattle.definitions.specs.Angles.{edge_cosine}
 use Rattle.dihedral.specs.Fractions.{IsFraction, IsAngle, normal_at, opposite, square_at, square_between}
 use Rattle.dihedral.specs.TetAngles.{edge_at, six_angles}
 use Rattle.dihedral.proofs.Reductions.{IsFraction-lowest}
 use Rattle.dihedral.proofs.FaceNormals.{first_is_some, second_is_some, third_is_some, fourth_is_some}
 use Rattle.dihedral.proofs.FaceSquares.{square_between-fraction, edge_0, edge_1, edge_2, edge_3, edge_4, edge_5}
 use Rattle.dihedral.proofs.SixAngles.{edge_cosine-is}
-
--- the angles of the definitions are those of the places of the corners
-pub angles_of-six : (places : List Place) (t : ℕ × List ℕ) → angles_of places t ≡ six_angles (corner_places places t.1) t.0 t.1
-angles_of-six places t = refl
 
 module _ (tet : List Place) (positive : pos 0 <ℤ det tet) where
   abbrev IsSome : Place → Type 0

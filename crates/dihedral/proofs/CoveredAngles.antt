@@ -117,9 +117,6 @@ module _ (e n : Extremes) (x : Extreme) (f : AreFractions e) (g : IsAngle x) (l 
     above = ap (λ t. is_less (in_lowest_terms x.cosine) t.cosine) greatest_is ∙ greatest_covers (angle_in_lowest_terms e.greatest) (angle_in_lowest_terms x) (IsFraction-lowest e.greatest.cosine f.greatest) (IsFraction-lowest x.cosine g);
   }
 
-pub first_covers : (x : Extreme) → Between (Some (record { least = angle_in_lowest_terms x; greatest = angle_in_lowest_terms x })) (in_lowest_terms x.cosine)
-first_covers x = record { below = is_less-same (in_lowest_terms x.cosine); above = is_less-same (in_lowest_terms x.cosine) }
-
 -- ---- six angles, one after another
 pub covers_six : (tet : List Place) → pos 0 <ℤ det tet → (a b c d e f : Option Extremes) → Between a (edge_cosine tet (edge_at 0)) → Widens a b → Between b (edge_cosine tet (edge_at 1)) → Widens b c → Between c (edge_cosine tet (edge_at 2)) → Widens c d
     → Between d (edge_cosine tet (edge_at 3)) → Widens d e → Between e (edge_cosine tet (edge_at 4)) → Widens e f → Between f (edge_cosine tet (edge_at 5)) → Covers f tet

@@ -1,7 +1,7 @@
 -- Angles that are within bounds are within the extremes.
 use Rattle.std.proofs.Common.{◌≡◌, inl, inr, ℕ, zero, suc, ◌+◌, ◌*◌, ◌/◌, ◌^◌, ◌<◌, ◌≤◌, ap, sym, ◌∙◌, subst, arith, Bool, false, Option, Some, ℤ, pos, negsuc}
 use Rattle.std.specs.Prelude.{if◌then◌else◌, int_lt, unsigned_abs, ◌*ℤ◌, ◌<ℤ◌, List}
-use Rattle.std.proofs.Math.Nat.{mul-le-mul_left, mul_comm, mul_assoc, div-mul-le_self}
+use Rattle.std.proofs.Math.Nat.{mul-le-mul_left, mul_comm, mul_assoc, div-mul-le_self, eq-or-lt_of_le}
 use Rattle.std.proofs.lemmas.Int.{ints}
 use Rattle.definitions.specs.declared.Extremes.{Extremes}
 use Rattle.definitions.specs.declared.Place.{Place}
@@ -13,7 +13,6 @@ use Rattle.dihedral.specs.Shapes.{Between, Covers, IsBetween}
 use Rattle.dihedral.specs.TetAngles.{edge_at}
 use Rattle.dihedral.proofs.AnglesAreFractions.{square_fraction}
 use Rattle.dihedral.proofs.SixAngles.{edge_cosine-is}
-use Rattle.lattice_laws.proofs.Lists.{equal_or_less}
 use Rattle.dihedral.proofs.Reductions.{is_less-lowest}
 
 -- by the higher halves
@@ -102,15 +101,9 @@ bound_some e b f p l q g x fx w =
       above = is_less-lowest x e.greatest.cosine fx.den f.greatest.den ∙ r.above;
     }
 
-pub bound_none : (b : Bounds) → b.least ≡ 0 → (o : Option Extremes) → Bound b o
-bound_none b z o x fx w = absurd (none b.least z w.some_least)
-  where
-    none : (n : ℕ) → n ≡ 0 → 0 < n → ⊥
-    none n e h = omega arith
-
 -- one number more
 pub one_edge_more : (P : ℕ → Type 0) (n : ℕ) → ((k : ℕ) → k < n → P k) → P n → (k : ℕ) → k < n + 1 → P k
-one_edge_more P n before here k lt = elim (equal_or_less k n (omega arith)) [ inl e ↦ subst P (sym e) here | inr less ↦ before k less ]
+one_edge_more P n before here k lt = elim (eq-or-lt_of_le (let h : k ≤ n = omega arith in h)) [ inl e ↦ subst P (sym e) here | inr less ↦ before k less ]
 
 -- a tetrahedron whose angles are within the bounds
 pub covered_by : (b : Bounds) (o : Option Extremes) (tet : List Place) → pos 0 <ℤ det tet → Bound b o → ((k : ℕ) → k < 6 → IsWithinBounds b (square_at tet (edge_at k))) → Covers o tet

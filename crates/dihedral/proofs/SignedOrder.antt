@@ -75,25 +75,8 @@ same_sign (pos (suc zero)) x y r p q h k e = int_cmp_is _ _ r (go r (ranked x y 
 same_sign (pos (suc (suc n))) x y r p q h k e = absurd (omega (arith, ints))
 same_sign (negsuc n) x y r p q h k e = absurd (omega (arith, ints))
 
--- one sign below 0: the sizes the other way round
-minus_sign : (s : ℤ) (x y : ℕ) (r : Ordering) → unsigned_abs s ≤ 1 → s <ℤ pos 0 → r ≡ nat_cmp y x → r ≡ int_cmp (s *ℤ pos x) (s *ℤ pos y)
-minus_sign (pos n) x y r p q e = absurd (omega (arith, ints))
-minus_sign (negsuc zero) x y r p q e = int_cmp_is _ _ r (go r (ranked y x r e))
-  where
-    go : (r : Ordering) → MatchOrdering r (y < x) (y ≡ x) (x < y) → MatchOrdering r ((negsuc 0 *ℤ pos x) <ℤ (negsuc 0 *ℤ pos y)) (negsuc 0 *ℤ pos x ≡ negsuc 0 *ℤ pos y) ((negsuc 0 *ℤ pos y) <ℤ (negsuc 0 *ℤ pos x))
-    go Less l = omega (arith, ints)
-    go Equal l = ap (λ t. negsuc 0 *ℤ pos t) (sym l)
-    go Greater l = omega (arith, ints)
-minus_sign (negsuc (suc n)) x y r p q e = absurd (omega (arith, ints))
-
 pub sizes_tell : (a b : Cosine) (r : Ordering) → IsFraction a → IsFraction b → a.sign ≡ b.sign → pos 0 ≤ℤ a.sign → r ≡ nat_cmp (a.num * b.den) (b.num * a.den) → TellsOrder r a b
 sizes_tell a b r f g same up e =
     tells (left a b) (left b a) r
     (same_sign a.sign (a.num * b.den) (b.num * a.den) r f.sign up (no_product a.sign a.num b.den f.zero) (λ z. no_product b.sign b.num a.den g.zero (sym same ∙ z)) e
-    ∙ ap (λ t. int_cmp (left a b) (t *ℤ pos (b.num * a.den))) same)
-
-pub sizes_tell_below : (a b : Cosine) (r : Ordering) → IsFraction a → IsFraction b → a.sign ≡ b.sign → a.sign <ℤ pos 0 → r ≡ nat_cmp (b.num * a.den) (a.num * b.den) → TellsOrder r a b
-sizes_tell_below a b r f g same down e =
-    tells (left a b) (left b a) r
-    (minus_sign a.sign (a.num * b.den) (b.num * a.den) r f.sign down e
     ∙ ap (λ t. int_cmp (left a b) (t *ℤ pos (b.num * a.den))) same)

@@ -3,6 +3,7 @@ use Rattle.std.proofs.Common.{◌≡◌, inl, inr, ℕ, ◌≤◌, arith, refl, 
 use Rattle.std.specs.Prelude.{if◌then◌else◌}
 use Rattle.std.specs.List.{range_with_len}
 use Rattle.std.proofs.Math.IntN.{ℤ}
+use Rattle.std.proofs.lemmas.Bool.{leb-true}
 use Rattle.definitions.specs.declared.Near.{Near}
 use Rattle.definitions.specs.declared.Sign.{Sign}
 use Rattle.definitions.specs.declared.Sign.TheVariants.{Minus, Zero, Plus}
@@ -11,7 +12,6 @@ use Rattle.definitions.specs.Lattice.{is_long}
 use Rattle.definitions.specs.Values.{value, sign_of}
 use Rattle.definitions.specs.Cuts.{cut_number}
 use Rattle.definitions.specs.States.{Shares, IsShares, is_up, direction_of, near_at, is_nearer, snapped, share, square_of}
-use Rattle.lattice_laws.proofs.Lists.{at_most_from_test}
 use Rattle.snap_laws.specs.Around.{around, rank, number_of_cut, distance_of_cut, near_here, nears_here, state_here, value_on}
 use Rattle.snap_laws.proofs.ByValues.{states_by_values}
 use Rattle.snap_laws.proofs.Nearest.{IfNear, both_some, nearest_has}
@@ -39,7 +39,7 @@ close_from_given s ok edge k c n low high within = go (nat_le (distance_of_cut e
         → (if b then Some (record { edge = edge; k = k; square = square_of (is_long (direction_of edge)) (distance_of_cut edge k); key = c }) else None) ≡ Some n → IsClose n
     go true t e =
         let q : record { edge = edge; k = k; square = square_of (is_long (direction_of edge)) (distance_of_cut edge k); key = c } ≡ n = cc in
-        subst IsClose q (low, high, within, share_fits s ok (direction_of edge) (distance_of_cut edge k) (at_most_from_test (distance_of_cut edge k) (share s (direction_of edge)) t))
+        subst IsClose q (low, high, within, share_fits s ok (direction_of edge) (distance_of_cut edge k) (leb-true (distance_of_cut edge k) (share s (direction_of edge)) t))
     go false t e = cc
 
 near_is_close : (s : Shares) (ok : IsShares s) (own other : ℤ) (edge : ℕ) (n : Near) → 1 ≤ edge → edge ≤ 14 → near_here s own other edge ≡ Some n → IsClose n

@@ -32,10 +32,6 @@ boundary_split tets n =
     sym (filter-append on_edge (all_triangles (take n tets)) (all_triangles (drop n tets)))
     ∙ ap (filter on_edge) (sym (flat_map-append triangles_of (take n tets) (drop n tets)) ∙ ap all_triangles (take-append-drop n tets))
 
--- those of all
-pub boundary_all : (tets : List (List ℕ)) → boundary_to tets (length tets) ≡ boundary tets
-boundary_all tets = ap (λ l. filter (λ (triangle : List ℕ). eqb (tets_at_triangle tets triangle) 1) (all_triangles l)) (take_all (length tets) tets (omega arith))
-
 face_file : (first : ℕ) (faces : List (List ℕ)) → (decimal (length faces) ++ codes " 0\n") ++ face_lines first first faces ≡ face_text first faces
 unfolding face_text
 face_file first faces = ap (λ l. l ++ face_lines first first faces) (sym (append_assoc (decimal (length faces)) (codes " 0") (10 ∷ [])))

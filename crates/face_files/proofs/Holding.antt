@@ -1,20 +1,11 @@
 -- Bytes that are held, written and added to.
-use Rattle.std.proofs.Common.{◌≡◌, ℕ, List, [], ◌∷◌, ◌++◌, Option, Some, None, length, take, refl, sym, ap, ◌∙◌, subst, append_assoc, append-nil, arith}
+use Rattle.std.proofs.Common.{◌≡◌, ℕ, List, [], ◌++◌, Option, length, sym, ap, ◌∙◌, subst, append_assoc, append-nil, arith}
 use Rattle.std.proofs.KnownBytes.{Appends-trans}
 use Rattle.std.proofs.lemmas.List.{take_all}
 use Rattle.std.specs.Io.KnownBytes.{Appends}
-use Rattle.std.specs.Prelude.{Result, Ok, Err, OnOk, OnErr}
 use Rattle.node_ele_write.proofs.Pieces.{part_behind, part_longer}
 use Rattle.st_base.specs.Desk.{AppendsPart}
 use Rattle.face_files.specs.Held.{AppendsAllButHeld}
-
-appends_none : (a : Option (List ℕ)) → Appends a a []
-appends_none None = tt
-appends_none (Some xs) = sym (append-nil xs)
-
--- nothing is written yet
-pub all_held : (a : Option (List ℕ)) (xs : List ℕ) → AppendsAllButHeld a a xs xs
-all_held a xs = ([], appends_none a, refl)
 
 -- more is held
 pub held_more : (a b : Option (List ℕ)) (held held' all xs : List ℕ) → held' ≡ held ++ xs → AppendsAllButHeld a b held all → AppendsAllButHeld a b held' (all ++ xs)
@@ -35,12 +26,3 @@ part_written a b c held all k h = subst (λ t. AppendsPart a c t) h.2 (part_behi
 pub is_part : (a b : Option (List ℕ)) (held all : List ℕ) → AppendsAllButHeld a b held all → AppendsPart a b all
 is_part a b held all h =
     subst (λ t. AppendsPart a b t) h.2 (part_longer a b h.0 held (length h.0, omega arith, subst (λ t. Appends a b t) (sym (take_all (length h.0) h.0 (omega arith))) h.1))
-
--- what follows from what a result says
-pub then_ok : {T E A B : Type 0} (r : Result T E) → OnOk r A → (A → B) → OnOk r B
-then_ok (Ok x) h f = f h
-then_ok (Err e) h f = tt
-
-pub then_err : {T E A B : Type 0} (r : Result T E) → OnErr r A → (A → B) → OnErr r B
-then_err (Ok x) h f = tt
-then_err (Err e) h f = f h

@@ -2,6 +2,7 @@
 use Rattle.std.proofs.Common.{◌≡◌, ℕ, zero, suc, ◌+◌, ◌*◌, ◌<◌, true, not, ◌&&◌, ◌==◌, List, [], ◌∷◌, map, length, refl, sym, ap, arith}
 use Rattle.std.specs.Prelude.{slice_index_or}
 use Rattle.std.proofs.lemmas.Bool.Decides.{nat_tests}
+use Rattle.std.proofs.lemmas.Bool.{and_parts}
 use Rattle.definitions.specs.declared.Vertex.{Vertex}
 use Rattle.definitions.specs.declared.Sign.{Sign}
 use Rattle.definitions.specs.declared.Corner.{Corner}
@@ -10,7 +11,6 @@ use Rattle.definitions.specs.Lattice.{direction, vertex}
 use Rattle.definitions.specs.Pieces.{corner_key}
 use Rattle.definitions.specs.Stencils.{is_on_face}
 use Rattle.lattice_laws.specs.NumberedTetrahedra.{is_corner}
-use Rattle.lattice_laws.proofs.Booleans.{both_true}
 use Rattle.stencil_laws.specs.Faces.{face_corner, slot_on_face, signs_without}
 use Rattle.face_laws.specs.Shapes.{without}
 use Rattle.face_laws.specs.Sides.{is_within_face}
@@ -72,13 +72,13 @@ module _ (tet : List Vertex) (ids : List ℕ) (n : ℕ) (four : length tet ≡ 4
   key_on_face (Whole a) h k = ap (λ m. 8 * m) (sym (at_without ids 0 n a ids_four low (whole_slot a h) k))
   key_on_face (Cut a b) h k =
       let l = cut_slots a b h in
-      let f = both_true (not (a == n)) (not (b == n)) k in
+      let f = and_parts (not (a == n)) (not (b == n)) k in
       let la : a < 4 = omega (arith, l.0, l.1) in
       λ i. 8 * sym (at_without ids 0 n a ids_four low la f.0) i + direction (sym (at_without tet (vertex 0 0 0) n a four low la f.0) i) (sym (at_without tet (vertex 0 0 0) n b four low l.1 f.1) i)
 
   pub keys_on_face : (t : List Corner) → is_within_face n t ≡ true → map (corner_key tet ids) t ≡ map face_key (map (face_corner n) t)
   keys_on_face [] h = refl
   keys_on_face (c ∷ t) h =
-      let s = both_true (is_corner c && is_on_face n c) (is_within_face n t) h in
-      let r = both_true (is_corner c) (is_on_face n c) s.0 in
+      let s = and_parts (is_corner c && is_on_face n c) (is_within_face n t) h in
+      let r = and_parts (is_corner c) (is_on_face n c) s.0 in
       λ i. key_on_face c r.0 r.1 i ∷ keys_on_face t s.1 i

@@ -2,7 +2,7 @@
 use Rattle.std.proofs.Common.{inl, inr, ◌⊎◌, ◌≡◌, ℕ, ◌+◌, ◌*◌, ◌/◌, ◌%◌, ◌<◌, ◌≤◌, Bool, true, false, not, ◌&&◌, ◌==◌, List, [], ◌∷◌, map, length, get_or, refl, sym, ap, ◌∙◌, subst, arith}
 use Rattle.std.specs.Prelude.{slice_index, count_by}
 use Rattle.std.specs.List.{list_any, list_all, range_with_len}
-use Rattle.std.proofs.lemmas.Bool.{eqb-true}
+use Rattle.std.proofs.lemmas.Bool.{eqb-true, and_parts, or_cases, and_from, or_left, or_right, leb-true}
 use Rattle.std.proofs.lemmas.Bool.Decides.{nat_tests}
 use Rattle.std.proofs.lemmas.List.{length-map, get_or-map}
 use Rattle.definitions.specs.declared.Dims.{Dims}
@@ -21,11 +21,11 @@ use Rattle.definitions.specs.Stencils.{is_level, is_kept, is_minus, is_plus, is_
 use Rattle.definitions.specs.Tetrahedra.{IsLatticeTet, lattice_tets}
 use Rattle.lattice_laws.specs.Ascending.{Has}
 use Rattle.lattice_laws.specs.NumberedTetrahedra.{IsInner, is_corner}
-use Rattle.lattice_laws.proofs.Booleans.{both_true, either_true, and_true, implied, or_left, or_right}
+use Rattle.lattice_laws.proofs.Booleans.{implied}
 use Rattle.lattice_laws.proofs.Directions.{direction_known}
 use Rattle.lattice_laws.proofs.KeyOrder.{pieces_by_table, tet_ids_rise}
 use Rattle.lattice_laws.proofs.ListedTetrahedra.{lattice_tets_listed}
-use Rattle.lattice_laws.proofs.Lists.{all_at_member, at_most_from_test, member_where}
+use Rattle.lattice_laws.proofs.Lists.{all_at_member, member_where}
 use Rattle.lattice_laws.proofs.Members.{from_filter, from_flat_map, from_map, from_range, has_range}
 use Rattle.lattice_laws.proofs.Sublists.{has_at}
 use Rattle.stencil_laws.specs.Cases.{case_pieces}
@@ -96,10 +96,10 @@ module _ (d : Dims) (ss : List State) (tet : List Vertex) (lattice : IsLatticeTe
   level_keys : (t : List Corner) → are_kept signs t ≡ true → list_all (is_level signs) t ≡ true → list_all (is_level_key ss) (map key t) ≡ true
   level_keys [] h k = refl
   level_keys (c ∷ t) h k =
-      let s = both_true (is_corner c && is_kept signs c) (are_kept signs t) h in
-      let r = both_true (is_corner c) (is_kept signs c) s.0 in
-      let l = both_true (is_level signs c) (list_all (is_level signs) t) k in
-      and_true (is_level_key ss (key c)) _ (level_key c r.0 r.1 l.0) (level_keys t s.1 l.1)
+      let s = and_parts (is_corner c && is_kept signs c) (are_kept signs t) h in
+      let r = and_parts (is_corner c) (is_kept signs c) s.0 in
+      let l = and_parts (is_level signs c) (list_all (is_level signs) t) k in
+      and_from (is_level_key ss (key c)) _ (level_key c r.0 r.1 l.0) (level_keys t s.1 l.1)
 
   times_by_case : (t : List ℕ) → times_of d ss t tet ≡ total (λ p. times_in t (map key (oriented tet p))) (case_pieces signs)
   times_by_case t = ap (total (times_in t)) pieces_are ∙ total-map (times_in t) (λ p. map key (oriented tet p)) (case_pieces signs)
@@ -177,7 +177,7 @@ module _ (d : Dims) (ss : List State) (padded : ArePadded d ss) (tet : List Vert
 
     second_same : (u : List Corner) → is_face_side across.lacks τ u ≡ true → same_nodes (map (key d ss other across.lattice) u) (map keys_here τ) ≡ true
     second_same u h =
-        let s = both_true (is_within_face across.lacks u) _ h in
+        let s = and_parts (is_within_face across.lacks u) _ h in
         let keys_there = corner_key (without across.lacks other) (without across.lacks (map (id d) other)) in
         sym (λ i. same_nodes (map (key d ss other across.lattice) u) (map (corner_key (across.same_face i) (same_ids i)) τ))
         ∙ ap (λ ks. same_nodes ks (map keys_there τ)) (keys_on_face other (map (id d) other) across.lacks across.lattice.four (ids_four d ss other across.lattice) across.lacks_low u s.0)
@@ -204,15 +204,15 @@ module _ (d : Dims) (ss : List State) (padded : ArePadded d ss) (tet : List Vert
   on_face n ln within here =
       let fit = sides_fit_each_case (signs d ss tet lattice) (signs_four d ss tet lattice) in
       let f = all_at_member (is_of_face (signs d ss tet lattice) t) (range_with_len 0 4) n (at_side d ss tet lattice is_of_faces fit.of_face p t piece side) (has_range 0 4 n (omega arith) ln) in
-      elim (either_true (list_all (is_level (signs d ss tet lattice)) t) _ f) [
+      elim (or_cases (list_all (is_level (signs d ss tet lattice)) t) _ f) [
         | inl e ↦ inl e
         | inr e ↦
             (let g = implied (is_within_face n t) _ e within in
-            let h = both_true (has_plus_on_face (signs d ss tet lattice) n) _ g in
-            let i = both_true (has_plus (signs_without n (signs d ss tet lattice))) _ h.1 in
+            let h = and_parts (has_plus_on_face (signs d ss tet lattice) n) _ g in
+            let i = and_parts (has_plus (signs_without n (signs d ss tet lattice))) _ h.1 in
             let m = member_where (λ m. not (m == n) && is_plus (sign_at (signs d ss tet lattice) m)) (range_with_len 0 4) h.0 in
             let lm = in_slots m.0 m.1 in
-            let q = both_true (not (m.0 == n)) (is_plus (sign_at (signs d ss tet lattice) m.0)) m.2 in
+            let q = and_parts (not (m.0 == n)) (is_plus (sign_at (signs d ss tet lattice) m.0)) m.2 in
             let four = lattice.four in
             let inner = plus_is_inner d ss padded (slot tet m.0) (lattice.within m.0 (vertex 0 0 0) (omega arith))
             (ap (λ k. is_plus (sign_of_state (state_at ss k))) (sym (id_is d ss tet lattice m.0 lm)) ∙ ap is_plus (sym (sign_is d ss tet lattice m.0 lm)) ∙ q.1) in
@@ -223,12 +223,12 @@ module _ (d : Dims) (ss : List State) (padded : ArePadded d ss) (tet : List Vert
   level_or_twice : 0 < times_of d ss t_keys tet → (list_all (is_level (signs d ss tet lattice)) t ≡ true) ⊎ (2 ≤ total (times_of d ss t_keys) (lattice_tets d))
   level_or_twice here =
       let fit = sides_fit_each_case (signs d ss tet lattice) (signs_four d ss tet lattice) in
-      elim (either_true (list_all (is_level (signs d ss tet lattice)) t) _ (at_side d ss tet lattice is_inner_twice fit.inner_twice p t piece side)) [
+      elim (or_cases (list_all (is_level (signs d ss tet lattice)) t) _ (at_side d ss tet lattice is_inner_twice fit.inner_twice p t piece side)) [
         | inl e ↦ inl e
-        | inr e ↦ elim (either_true (list_any (λ n. is_within_face n t) (range_with_len 0 4)) _ e) [
+        | inr e ↦ elim (or_cases (list_any (λ n. is_within_face n t) (range_with_len 0 4)) _ e) [
           | inl f ↦ (let n = member_where (λ n. is_within_face n t) (range_with_len 0 4) f in on_face n.0 (in_slots n.0 n.1) n.2 here)
           | inr f ↦
-              (let a = at_most_from_test 2 (count_by (has_side (same_corners t)) (case_pieces (signs d ss tet lattice))) f in
+              (let a = leb-true 2 (count_by (has_side (same_corners t)) (case_pieces (signs d ss tet lattice))) f in
               let b = sides_count d ss tet lattice t_keys (same_corners t) (λ u g. same_keys (key d ss tet lattice) t u g) in
               let c = total_at (times_of d ss t_keys) tet (lattice_tets d) listed in
               inr (omega arith))

@@ -2,15 +2,15 @@
 use Rattle.std.proofs.Common.{inl, inr, ◌≡◌, ℕ, Bool, true, false, ◌==◌, cond, List, [], ◌∷◌, ◌++◌, map, get_or, refl, sym, ap, ◌∙◌, subst}
 use Rattle.std.specs.Prelude.{count_by, filter, slice_index}
 use Rattle.std.specs.List.{list_any, list_all, AllByRecursion}
-use Rattle.std.proofs.lemmas.Bool.{eqb-true, eq-eqb}
+use Rattle.std.proofs.lemmas.Bool.{eqb-true, eq-eqb, and_parts, or_cases, and_from, or_left, or_right}
 use Rattle.std.proofs.lemmas.List.{map-append}
 use Rattle.std.proofs.lemmas.List.Folds.{list_all-map}
+use Rattle.list_words.proofs.Tests.{same_tests}
 use Rattle.definitions.specs.Values.{Field}
 use Rattle.definitions.specs.States.{Shares, states}
 use Rattle.definitions.specs.Mesh.{all_pieces, mesh, node_keys, number_of, occurs}
 use Rattle.definitions.specs.Soundness.{all_triangles, boundary, is_in, is_level_key, same_nodes, tets_at_triangle, triangles_of}
 use Rattle.lattice_laws.specs.Ascending.{Has}
-use Rattle.lattice_laws.proofs.Booleans.{both_true, either_true, and_true, or_left, or_right, same_tests}
 use Rattle.lattice_laws.proofs.Lists.{member_where}
 use Rattle.lattice_laws.proofs.Members.{from_filter, from_flat_map, from_map, all_from_members}
 use Rattle.lattice_laws.proofs.Sublists.{has_at}
@@ -52,17 +52,17 @@ filter_mapped f p q (x ∷ xs) h = go (p (f x)) (q x) (h x (inl refl)) (filter_m
 is_in_mapped : (f : ℕ → ℕ) (n : ℕ) (t : List ℕ) → is_in t n ≡ true → is_in (map f t) (f n) ≡ true
 is_in_mapped f n [] h = cc
 is_in_mapped f n (m ∷ t) h =
-    elim (either_true (m == n) (is_in t n) h) [
+    elim (or_cases (m == n) (is_in t n) h) [
       | inl e ↦ or_left (f m == f n) _ (eq-eqb (f m) (f n) (ap f (eqb-true m n e)))
       | inr e ↦ or_right (f m == f n) _ (is_in_mapped f n t e)
     ]
 
 subset_mapped : (f : ℕ → ℕ) (t s : List ℕ) → list_all (is_in t) s ≡ true → list_all (is_in (map f t)) (map f s) ≡ true
 subset_mapped f t [] h = refl
-subset_mapped f t (n ∷ s) h = let r = both_true (is_in t n) (list_all (is_in t) s) h in and_true _ _ (is_in_mapped f n t r.0) (subset_mapped f t s r.1)
+subset_mapped f t (n ∷ s) h = let r = and_parts (is_in t n) (list_all (is_in t) s) h in and_from _ _ (is_in_mapped f n t r.0) (subset_mapped f t s r.1)
 
 same_mapped : (f : ℕ → ℕ) (s t : List ℕ) → same_nodes s t ≡ true → same_nodes (map f s) (map f t) ≡ true
-same_mapped f s t h = let r = both_true (list_all (is_in t) s) (list_all (is_in s) t) h in and_true _ _ (subset_mapped f t s r.0) (subset_mapped f s t r.1)
+same_mapped f s t h = let r = and_parts (list_all (is_in t) s) (list_all (is_in s) t) h in and_from _ _ (subset_mapped f t s r.0) (subset_mapped f s t r.1)
 
 module _ (number back : ℕ → ℕ) where
   -- the numbers of the nodes lead back
@@ -141,7 +141,7 @@ corner_occurs tets n h =
 
 all_led_back : (p : ℕ → Bool) (number back : ℕ → ℕ) (t : List ℕ) → AllByRecursion (λ n. back (number n) ≡ n) t → list_all p t ≡ true → list_all (λ n. p (back (number n))) t ≡ true
 all_led_back p number back [] h k = refl
-all_led_back p number back (n ∷ t) h k = let r = both_true (p n) (list_all p t) k in and_true _ _ (ap p h.0 ∙ r.0) (all_led_back p number back t h.1 r.1)
+all_led_back p number back (n ∷ t) h k = let r = and_parts (p n) (list_all p t) k in and_from _ _ (ap p h.0 ∙ r.0) (all_led_back p number back t h.1 r.1)
 
 module _ (f : Field) (s : Shares) where
   abbrev pieces_here : List (List ℕ)

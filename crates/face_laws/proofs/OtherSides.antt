@@ -1,10 +1,10 @@
 -- A face with a vertex that is no padding has a lattice tetrahedron on both sides: one computation over six shapes and four faces.
-use Rattle.std.proofs.Common.{inl, inr, ◌≡◌, ℕ, zero, suc, ◌+◌, ◌-◌, ◌%◌, ◌<◌, Bool, true, not, ◌&&◌, ◌==◌, nat_le, nat_lt, List, [], ◌∷◌, map, length, refl, sym, ap, ◌∙◌, subst, arith}
+use Rattle.std.proofs.Common.{inl, inr, ◌≡◌, ℕ, zero, suc, ◌+◌, ◌-◌, ◌<◌, Bool, true, not, ◌&&◌, ◌==◌, nat_lt, List, [], ◌∷◌, map, length, refl, sym, ap, ◌∙◌, subst, arith}
 use Rattle.std.specs.Prelude.{IsTrue}
 use Rattle.std.specs.List.{list_all, AllByRecursion}
 use Rattle.std.proofs.Math.IntN.{ℤ, pos, ◌+ℤ◌}
 use Rattle.std.proofs.lemmas.Int.{ints}
-use Rattle.std.proofs.lemmas.Bool.{eqb-true, ltb-true}
+use Rattle.std.proofs.lemmas.Bool.{eqb-true, ltb-true, and_parts, or_cases, not-true, both_ways, and_from}
 use Rattle.std.proofs.lemmas.Bool.Decides.{nat_tests}
 use Rattle.std.proofs.lemmas.List.{length-map}
 use Rattle.definitions.specs.declared.Dims.{Dims}
@@ -17,12 +17,11 @@ use Rattle.lattice_laws.specs.FiniteTests.{below}
 use Rattle.lattice_laws.specs.Kinds.{Kind, kind_146, kind_256, kind_347, kind_357, kind_467, kind_567, slot_1, slot_2, slot_3, offset, vector_of, KindOfTet, tet_of_kind}
 use Rattle.lattice_laws.specs.NumberedTetrahedra.{IsInner}
 use Rattle.lattice_laws.specs.Vectors.{Vector, ◌+ᵥ◌, x_of, y_of, z_of}
-use Rattle.lattice_laws.proofs.Booleans.{both_true, either_true, not_true, not_both, and_true}
 use Rattle.lattice_laws.proofs.FiniteTests.{below_at}
-use Rattle.lattice_laws.proofs.Lists.{all_at_member, at_most_from_test}
+use Rattle.lattice_laws.proofs.Lists.{all_at_member}
 use Rattle.lattice_laws.proofs.Sublists.{all_by_place, pairs_by_place}
 use Rattle.lattice_laws.proofs.Directions.{Offset, before_by_offset}
-use Rattle.lattice_laws.proofs.EdgeTetrahedra.{IsWithin, neighbours_by_offsets}
+use Rattle.lattice_laws.proofs.EdgeTetrahedra.{neighbours_by_offsets, within_from_test}
 use Rattle.lattice_laws.proofs.SixKinds.{kind_of_tet}
 use Rattle.stencil_laws.specs.Faces.{each_pair}
 use Rattle.face_laws.specs.Shapes.{Standing, stand, shapes, standing_at, shape_across, slot_across, stands_near, stands_later, same_standing, same_standings, is_across, without}
@@ -40,16 +39,16 @@ across_at os n m h ln lm = below_at 4 (λ m. is_across os n m) (below_at 4 (λ n
 
 all_from_test : {X : Type 0} (p : X → Bool) (xs : List X) → list_all p xs ≡ true → AllByRecursion (λ x. p x ≡ true) xs
 all_from_test p [] h = tt
-all_from_test p (x ∷ xs) h = let s = both_true (p x) (list_all p xs) h in (s.0, all_from_test p xs s.1)
+all_from_test p (x ∷ xs) h = let s = and_parts (p x) (list_all p xs) h in (s.0, all_from_test p xs s.1)
 
 pairs_from_test : {X : Type 0} (R : X → X → Bool) (xs : List X) → each_pair R xs ≡ true → Ascends (λ x y. R x y ≡ true) xs
 pairs_from_test R [] h = tt
-pairs_from_test R (x ∷ xs) h = let s = both_true (list_all (R x) xs) (each_pair R xs) h in (all_from_test (R x) xs s.0, pairs_from_test R xs s.1)
+pairs_from_test R (x ∷ xs) h = let s = and_parts (list_all (R x) xs) (each_pair R xs) h in (all_from_test (R x) xs s.0, pairs_from_test R xs s.1)
 
 standing_from_test : (o p : Standing) → same_standing o p ≡ true → o ≡ p
 standing_from_test o p h =
-    let s = both_true (o.h == p.h) _ h in
-    let t = both_true (o.y == p.y) (o.x == p.x) s.1 in
+    let s = and_parts (o.h == p.h) _ h in
+    let t = and_parts (o.y == p.y) (o.x == p.x) s.1 in
     let eh = eqb-true o.h p.h s.0 in
     let ey = eqb-true o.y p.y t.0 in
     let ex = eqb-true o.x p.x t.1 in
@@ -59,34 +58,14 @@ standings_from_test : (os ps : List Standing) → same_standings os ps ≡ true 
 standings_from_test [] [] h = refl
 standings_from_test [] (p ∷ ps) h = cc
 standings_from_test (o ∷ os) [] h = cc
-standings_from_test (o ∷ os) (p ∷ ps) h = let s = both_true (same_standing o p) (same_standings os ps) h in λ i. standing_from_test o p s.0 i ∷ standings_from_test os ps s.1 i
-
-near_from_test : (q o : Standing) → stands_near q o ≡ true → IsWithin o q
-near_from_test q o h =
-    let s = both_true (nat_le o.h (q.h + 2) && (nat_le q.h (o.h + 2) && (nat_le o.y (q.y + 2) && nat_le q.y (o.y + 2)))) _ h in
-    let a = both_true (nat_le o.h (q.h + 2)) _ s.0 in
-    let b = both_true (nat_le q.h (o.h + 2)) _ a.1 in
-    let c = both_true (nat_le o.y (q.y + 2)) _ b.1 in
-    let e = both_true (nat_le o.x (q.x + 2)) _ s.1 in
-    let f = both_true (nat_le q.x (o.x + 2)) _ e.1 in
-    let g = both_true (o.y % 2 == o.h % 2) _ f.1 in
-    record {
-      h_up = at_most_from_test _ _ a.0;
-      h_down = at_most_from_test _ _ b.0;
-      y_up = at_most_from_test _ _ c.0;
-      y_down = at_most_from_test _ _ c.1;
-      x_up = at_most_from_test _ _ e.0;
-      x_down = at_most_from_test _ _ f.0;
-      y_even = eqb-true _ _ g.0;
-      x_even = eqb-true _ _ g.1;
-    }
+standings_from_test (o ∷ os) (p ∷ ps) h = let s = and_parts (same_standing o p) (same_standings os ps) h in λ i. standing_from_test o p s.0 i ∷ standings_from_test os ps s.1 i
 
 -- ---- four vertices that stand near one that is no padding
 
 module _ (d : Dims) (u p : Vertex) (q : Standing) (inside : InDomain d u) (inner : IsInner d p) (there : Offset u p q.h q.y q.x) where
   stand_offset : (o : Standing) → stands_near q o ≡ true → Offset u (stand u o) o.h o.y o.x
   stand_offset o e =
-      let w = near_from_test q o e in
+      let w = within_from_test o q e in
       let a = there.by_h in let b = there.by_y in let c = there.by_x in
       let i = inner.h_low in let j = inner.y_low in let k = inner.x_low in
       let h = w.h_down in let y = w.y_down in let x = w.x_down in
@@ -94,7 +73,7 @@ module _ (d : Dims) (u p : Vertex) (q : Standing) (inside : InDomain d u) (inner
 
   stand_inside : (o : Standing) → stands_near q o ≡ true → InDomain d (stand u o)
   stand_inside o e =
-      let w = near_from_test q o e in
+      let w = within_from_test o q e in
       let f = stand_offset o e in
       let a = there.by_h in let b = there.by_y in let c = there.by_x in
       let i = inner.h_high in let j = inner.y_high in let k = inner.x_high in
@@ -123,10 +102,10 @@ module _ (d : Dims) (u p : Vertex) (q : Standing) (inside : InDomain d u) (inner
     within = all_by_place (InDomain d) (map (stand u) os) (all_inside os near);
     ordered = pairs_by_place (λ v w. IsTrue (before v w)) (map (stand u) os)
         (pairs_related (λ v w. IsTrue (before v w))
-        (λ o p ho hp l. before_by_offset u (stand u o) (stand u p) o.h o.y o.x p.h p.y p.x (stand_offset o ho) (stand_offset p hp) ∙ (both_true (are_neighbours o p) (before o p) l).1) os near later);
+        (λ o p ho hp l. before_by_offset u (stand u o) (stand u p) o.h o.y o.x p.h p.y p.x (stand_offset o ho) (stand_offset p hp) ∙ (and_parts (are_neighbours o p) (before o p) l).1) os near later);
     neighbours = pairs_by_place (λ v w. IsTrue (are_neighbours v w)) (map (stand u) os)
         (pairs_related (λ v w. IsTrue (are_neighbours v w))
-        (λ o p ho hp l. neighbours_by_offsets u (stand u o) (stand u p) o p (stand_offset o ho) (stand_offset p hp) ∙ (both_true (are_neighbours o p) (before o p) l).0) os near later);
+        (λ o p ho hp l. neighbours_by_offsets u (stand u o) (stand u p) o p (stand_offset o ho) (stand_offset p hp) ∙ (and_parts (are_neighbours o p) (before o p) l).0) os near later);
   }
 
 -- ---- a lattice tetrahedron has one of the shapes
@@ -191,7 +170,7 @@ same_from_vertex t o p f g e =
     let h = ap (λ (v : Vertex). v.h) e in
     let y = ap (λ (v : Vertex). v.y) e in
     let x = ap (λ (v : Vertex). v.x) e in
-    and_true (o.h == p.h) _ (test o.h p.h (omega arith)) (and_true (o.y == p.y) (o.x == p.x) (test o.y p.y (omega arith)) (test o.x p.x (omega arith)))
+    and_from (o.h == p.h) _ (test o.h p.h (omega arith)) (and_from (o.y == p.y) (o.x == p.x) (test o.y p.y (omega arith)) (test o.x p.x (omega arith)))
   where
     test : (m n : ℕ) → m ≡ n → (m == n) ≡ true
     test m n e = grind (arith, nat_tests)
@@ -201,7 +180,7 @@ same_from_vertices t [] [] h k e l = refl
 same_from_vertices t [] (p ∷ ps) h k e l = absurd (omega arith)
 same_from_vertices t (o ∷ os) [] h k e l = absurd (omega arith)
 same_from_vertices t (o ∷ os) (p ∷ ps) h k e l =
-    and_true (same_standing o p) _ (same_from_vertex t o p h.0 k.0 (ap (λ vs. first vs) e)) (same_from_vertices t os ps h.1 k.1 (ap (λ vs. rest vs) e) (omega arith))
+    and_from (same_standing o p) _ (same_from_vertex t o p h.0 k.0 (ap (λ vs. first vs) e)) (same_from_vertices t os ps h.1 k.1 (ap (λ vs. rest vs) e) (omega arith))
   where
     first : List Vertex → Vertex
     first [] = vertex 0 0 0
@@ -263,11 +242,11 @@ module _ (d : Dims) (t u v w : Vertex) (n m : ℕ) (tet : IsLatticeTet d (t ∷ 
   stands_at = standing_at here m
 
   tests : ((length over == 4 && (list_all (stands_near stands_at) over && each_pair stands_later over)) && (nat_lt (slot_across here n) 4 && (same_standings (without (slot_across here n) over) (without n here) && not (same_standings over here)))) ≡ true
-  tests = elim (either_true (m == n) _ (across_at here n m shape.listed ln lm)) [ inl e ↦ absurd (ne (eqb-true m n e)) | inr e ↦ e ]
+  tests = elim (or_cases (m == n) _ (across_at here n m shape.listed ln lm)) [ inl e ↦ absurd (ne (eqb-true m n e)) | inr e ↦ e ]
 
   module _ (inside : InDomain d t) where
     near_over : AllByRecursion (λ o. stands_near stands_at o ≡ true) over
-    near_over = all_from_test (stands_near stands_at) over (both_true (list_all (stands_near stands_at) over) _ (both_true (length over == 4) _ (both_true _ _ tests).0).1).0
+    near_over = all_from_test (stands_near stands_at) over (and_parts (list_all (stands_near stands_at) over) _ (and_parts (length over == 4) _ (and_parts _ _ tests).0).1).0
 
     offsets_over : (os : List Standing) → AllByRecursion (λ o. stands_near stands_at o ≡ true) os → AllByRecursion (λ o. Offset t (stand t o) o.h o.y o.x) os
     offsets_over [] h = tt
@@ -275,12 +254,12 @@ module _ (d : Dims) (t u v w : Vertex) (n m : ℕ) (tet : IsLatticeTet d (t ∷ 
 
     other_side : OtherSide d vertices_here n
     other_side =
-        let s = both_true _ _ tests in
-        let a = both_true (length over == 4) _ s.0 in
+        let s = and_parts _ _ tests in
+        let a = and_parts (length over == 4) _ s.0 in
         let len = eqb-true (length over) 4 a.0 in
-        let later = pairs_from_test stands_later over (both_true (list_all (stands_near stands_at) over) _ a.1).1 in
-        let b = both_true (nat_lt (slot_across here n) 4) _ s.1 in
-        let c = both_true (same_standings (without (slot_across here n) over) (without n here)) _ b.1 in
+        let later = pairs_from_test stands_later over (and_parts (list_all (stands_near stands_at) over) _ a.1).1 in
+        let b = and_parts (nat_lt (slot_across here n) 4) _ s.1 in
+        let c = and_parts (same_standings (without (slot_across here n) over) (without n here)) _ b.1 in
         record {
           other = map (stand t) over;
           lattice = is_tet d t (slot vertices_here m) stands_at inside inner (there m lm) over len near_over later;
@@ -291,7 +270,7 @@ module _ (d : Dims) (t u v w : Vertex) (n m : ℕ) (tet : IsLatticeTet d (t ∷ 
               ∙ ap (map (stand t)) (standings_from_test _ _ c.0)
               ∙ sym (map_without (stand t) n here)
               ∙ ap (without n) (sym is_stand);
-          differs = λ e. not_both (same_standings over here) (same_from_vertices t over here (offsets_over over near_over) own_offsets (e ∙ is_stand) len) (not_true _ c.1);
+          differs = λ e. both_ways (same_standings over here) (not-true _ c.1) (same_from_vertices t over here (offsets_over over near_over) own_offsets (e ∙ is_stand) len);
         }
 
 -- a face with a vertex that is no padding has another lattice tetrahedron

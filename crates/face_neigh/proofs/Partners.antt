@@ -3,13 +3,14 @@ use Rattle.std.proofs.Common.{◌≡◌, ◌≢◌, ◌⊎◌, inl, inr, ℕ, ze
 use Rattle.std.specs.Prelude.{All, Contains, filter, find, IsPermutation}
 use Rattle.std.specs.List.Sorted.{IsNonDecreasingBy}
 use Rattle.std.specs.List.{list_any, range_with_len}
-use Rattle.std.proofs.lemmas.Bool.{ne_eqb, eq-eqb, eqb-true, eqb-false, not-true, not_from_false, and_parts, and_from, or_cases, or_left, or_right, cases_Bool, false≢true, false_from_ne_true, cond-true, cond-false, cases_eq, cases_lt}
+use Rattle.std.proofs.lemmas.Bool.{ne_eqb, eq-eqb, eqb-true, eqb-false, not-true, not_from_false, and_parts, and_from, or_left, or_right, cases_Bool, false≢true, false_from_ne_true, cond-true, cond-false, cases_eq, cases_lt}
 use Rattle.std.proofs.lemmas.List.{get_or_default}
 use Rattle.std.proofs.lemmas.List.Elements.{All-contains, filter_passes}
 use Rattle.definitions.specs.Soundness.{same_nodes, triangles_of, all_triangles, tets_at_triangle, boundary}
 use Rattle.adjacency.specs.Neighbours.{triangle_without, has_triangle, is_across, neighbour, neighbours}
 use Rattle.adjacency.specs.Laws.{AreMutual, EndsAtBoundary}
 use Rattle.std.proofs.lemmas.List.FromFn.{fill_by_all}
+use Rattle.list_words.proofs.Lists.{place_where}
 use Rattle.face_neigh.specs.declared.side.Side.{Side}
 use Rattle.face_neigh.specs.Sides.{IsSmall, key_of, sides}
 use Rattle.face_neigh.specs.Pairs.{noted, none_noted, NotesPairs}
@@ -52,14 +53,6 @@ find_None p low (suc n) u e le lt =
       ]
     ]
 
-any_at : {X : Type 0} (p : X → Bool) (xs : List X) (d : X) → list_any p xs ≡ true → (k : ℕ) × (k < length xs) × (p (get_or xs k d) ≡ true)
-any_at p [] d e = absurd (false≢true e)
-any_at p (x ∷ xs) d e =
-    elim (or_cases (p x) (list_any p xs) e) [
-      | inl h ↦ (zero, omega arith, h)
-      | inr h ↦ (let w = any_at p xs d h in (suc w.0, (let l = w.1 in omega arith), w.2))
-    ]
-
 any_from : {X : Type 0} (p : X → Bool) (xs : List X) (k : ℕ) (d : X) → k < length xs → p (get_or xs k d) ≡ true → list_any p xs ≡ true
 any_from p [] k d lt e = absurd (omega arith)
 any_from p (x ∷ xs) zero d lt e = or_left (p x) (list_any p xs) e
@@ -92,7 +85,7 @@ module _ (tets : List (List ℕ)) (fit : IsFit tets) where
   across_partner : (t i u : ℕ) → t < length tets → i < 4 → u < length tets → is_across tets t i u ≡ true → IsPartner tets fit (4 * t + (3 - i)) u
   across_partner t i u lt li lu e =
       let parts = and_parts (not (eqb u t)) (has_triangle (triangle_without (get_or tets t []) i) (get_or tets u [])) e in
-      let w = any_at (same_nodes (triangle_without (get_or tets t []) i)) (triangles_of (get_or tets u [])) [] parts.1 in
+      let w = place_where (same_nodes (triangle_without (get_or tets t []) i)) (triangles_of (get_or tets u [])) [] parts.1 in
       let l = length-triangles_of (get_or tets u []) (fit.four u [] lu) in
       made w.0 (let lk = w.1 in omega arith) w.2 (eqb-false u t (not-true (eqb u t) parts.0))
     where

@@ -2,6 +2,7 @@
 use Rattle.std.proofs.Common.{◌≡◌, ◌≢◌, ◌⊎◌, inl, inr, ℕ, ◌+◌, ◌*◌, ◌^◌, ◌<◌, ◌≤◌, min, max, Bool, true, false, ◌||◌, List, [], ◌∷◌, eqb, refl, sym, ap, ◌∙◌, subst, arith}
 use Rattle.std.specs.List.{list_all}
 use Rattle.std.proofs.lemmas.Bool.{cases_lt, eqb-true, eq-eqb, and_parts, and_from, or_cases, or_left, or_right, false≢true}
+use Rattle.list_words.proofs.Tests.{same_tests}
 use Rattle.definitions.specs.Soundness.{is_in, same_nodes}
 use Rattle.face_neigh.specs.declared.side.Side.{Side}
 use Rattle.face_neigh.specs.Sides.{IsSmall, key_of, side_of}
@@ -65,15 +66,10 @@ have_all p (x ∷ s) h =
     and_from (p x) (list_all p s) (h x (or_left (eqb x x) (is_in s x) (eq-eqb x x refl)))
     (have_all p s (λ n e. h n (or_right (eqb x n) (is_in s n) e)))
 
-both_or_neither : (x y : Bool) → (x ≡ true → y ≡ true) → (y ≡ true → x ≡ true) → x ≡ y
-both_or_neither true y f g = sym (f refl)
-both_or_neither false true f g = g refl
-both_or_neither false false f g = refl
-
 pub members_from_same : (s t : List ℕ) → same_nodes s t ≡ true → (n : ℕ) → is_in s n ≡ is_in t n
 members_from_same s t h n =
     let parts = and_parts (list_all (is_in t) s) (list_all (is_in s) t) h in
-    both_or_neither (is_in s n) (is_in t n) (all_have (is_in t) s parts.0 n) (all_have (is_in s) t parts.1 n)
+    same_tests (is_in s n) (is_in t n) (all_have (is_in t) s parts.0 n) (all_have (is_in s) t parts.1 n)
 
 pub same_from_members : (s t : List ℕ) → ((n : ℕ) → is_in s n ≡ is_in t n) → same_nodes s t ≡ true
 same_from_members s t h =

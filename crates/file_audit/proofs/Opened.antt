@@ -1,12 +1,10 @@
 -- What opening and reading a told file comes to.
-use Rattle.std.proofs.Common.{◌≡◌, inr, ℕ, ◌+◌, ◌<◌, ◌≤◌, List, length, Bool, true, false, ltb, if◌then◌else◌, Option, Some, None, Result, Ok, Err, refl, sym, ap, ◌∙◌, arith}
-use Rattle.std.proofs.lemmas.Bool.{lt-ltb, ltb-true, ltb-false}
+use Rattle.std.proofs.Common.{◌≡◌, inr, ℕ, ◌<◌, ◌≤◌, List, length, Bool, true, false, ltb, Option, Some, None, Result, Ok, Err, refl, sym, ap, ◌∙◌, arith}
+use Rattle.std.proofs.lemmas.Bool.{ltb-true, ltb-false}
 use Rattle.std.proofs.lemmas.List.{drop_all}
 use Rattle.formats.specs.declared.MeshFault.{MeshFault}
 use Rattle.formats.specs.declared.MeshFault.TheVariants.{TooLong, BadLine, BadPlace, BadNode, EndsEarly, ReadFault, NoMemory}
-use Rattle.mesh_files.specs.Lines.{text_limit, lines_of}
-use Rattle.mesh_files.specs.Forms.{node_head, tet_head, node_line, tet_line}
-use Rattle.mesh_files.specs.Files.{Nodes, nodes_of, tets_of, nodes_from, contents, first_number, within_limit}
+use Rattle.mesh_files.specs.Lines.{text_limit}
 use Rattle.mesh_read.specs.Told.{FileTold}
 use Rattle.st_base.specs.Desk.{InputState, IsTold}
 use Rattle.file_audit.specs.Opening.{FileSays, FileTaken}
@@ -24,17 +22,6 @@ file_said shown wanted (Err (BadNode place)) text left h = λ of_text. h.0
 file_said shown wanted (Err (EndsEarly got all)) text left h = λ of_text. h.0
 file_said shown wanted (Err ReadFault) text left h = λ of_text. absurd of_text
 file_said shown wanted (Err NoMemory) text left h = λ of_text. absurd of_text
-
-too_long : {X : Type 0} (read : List ℕ → Result X MeshFault) (text : List ℕ) → text_limit < length text → within_limit read text ≡ Err TooLong
-too_long read text h = ap (λ (b : Bool). if b then Err TooLong else read text) (lt-ltb text_limit (length text) h)
-
-pub long_nodes : (text : List ℕ) → text_limit < length text → nodes_of text ≡ Err TooLong
-unfolding nodes_of
-long_nodes text h = too_long (λ t. let first = first_number (lines_of t) in nodes_from first (contents node_head (λ d i. node_line d.extra (first + i)) (lines_of t))) text h
-
-pub long_tets : (nodes : Nodes) (text : List ℕ) → text_limit < length text → tets_of nodes text ≡ Err TooLong
-unfolding tets_of
-long_tets nodes text h = too_long (λ t. contents tet_head (λ d i. tet_line nodes.first (length nodes.places) d.extra (nodes.first + i)) (lines_of t)) text h
 
 within : {X : Type 0} (wanted : Result X MeshFault) (x : X) (text : List ℕ) → (text_limit < length text → wanted ≡ Err TooLong) → wanted ≡ Ok x → length text ≤ text_limit
 within {X} wanted x text long e = by_length (ltb text_limit (length text)) refl

@@ -5,21 +5,21 @@ use Rattle.std.specs.Prelude.{OnOk, OnErr}
 use Rattle.st_base.specs.Desk.{MayTry, with_name}
 use Rattle.file_audit.specs.Status.{GrowsAlong, with_names}
 
-none_more : (old : Option (List (List ℕ))) → old ≡ with_names old []
-none_more None = refl
-none_more (Some names) = ap Some (sym (append-nil names))
+pub same_names : (old : Option (List (List ℕ))) → old ≡ with_names old []
+same_names None = refl
+same_names (Some names) = ap Some (sym (append-nil names))
 
-joined : (old : Option (List (List ℕ))) (a b : List (List ℕ)) → with_names (with_names old a) b ≡ with_names old (a ++ b)
-joined None a b = refl
-joined (Some names) a b = ap Some (append_assoc names a b)
+pub joined_names : (old : Option (List (List ℕ))) (a b : List (List ℕ)) → with_names (with_names old a) b ≡ with_names old (a ++ b)
+joined_names None a b = refl
+joined_names (Some names) a b = ap Some (append_assoc names a b)
 
 pub may_grow : (old new : Option (List (List ℕ))) (name : List ℕ) (rest : List (List ℕ)) → MayTry old new name → GrowsAlong (name ∷ rest) old new
 may_grow old new name rest (true, e) = (1, e)
-may_grow old new name rest (false, e) = (0, e ∙ none_more old)
+may_grow old new name rest (false, e) = (0, e ∙ same_names old)
 
 -- one name, and then another
 two_grow : (old mid new : Option (List (List ℕ))) (a b : List ℕ) → mid ≡ with_name old a → new ≡ with_name mid b → GrowsAlong (a ∷ b ∷ []) old new
-two_grow old mid new a b e f = (2, f ∙ ap (λ (m : Option (List (List ℕ))). with_names m (b ∷ [])) e ∙ joined old (a ∷ []) (b ∷ []))
+two_grow old mid new a b e f = (2, f ∙ ap (λ (m : Option (List (List ℕ))). with_names m (b ∷ [])) e ∙ joined_names old (a ∷ []) (b ∷ []))
 
 -- one name, and then another where this is told, or perhaps
 pub one_grows : {T E : Type 0} (r : Result T E) (old mid new : Option (List (List ℕ))) (a b : List ℕ) → mid ≡ with_name old a → OnOk r (new ≡ with_name mid b) → OnErr r (MayTry mid new b) → GrowsAlong (a ∷ b ∷ []) old new

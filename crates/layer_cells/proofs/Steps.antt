@@ -2,6 +2,7 @@
 use Rattle.std.proofs.Common.{◌≡◌, ◌≢◌, ◌⊎◌, inl, inr, ℕ, zero, suc, ◌+◌, ◌-◌, ◌<◌, ◌≤◌, ◌==◌, eqb, eq-eqb, List, [], ◌∷◌, length, set, replicate, Bool, true, false, if◌then◌else◌, true≢false, refl, sym, ap, ◌∙◌, subst, ⊎_elim, arith}
 use Rattle.std.specs.Prelude.{slice_index}
 use Rattle.std.proofs.lemmas.List.{get_or-replicate, get_or-set_same, get_or-set_other, set-get_or, length-set, length-replicate}
+use Rattle.std.proofs.lemmas.Bool.{or_cases, false_from_ne_true, or_left, or_right}
 use mathlib.Core.Logic.{dite}
 use native.Mathlib.Decide.{ℕ_discrete}
 use mathlib.Core.Option.{some, none, some-ne-none, some-injective}
@@ -12,7 +13,6 @@ use Rattle.atomic_table.proofs.Lists.{at_set, at_snoc, set_again, exchanged}
 use Rattle.definitions.specs.Lattice.{vertex_at}
 use Rattle.definitions.specs.Layout.{layer_ids, layer_len, layer_start}
 use Rattle.list_words.specs.Words.{has, joined, without}
-use Rattle.list_words.proofs.Tests.{either_true, not_so, or_left, or_right}
 use Rattle.list_words.proofs.Lists.{has_among, has_append, has_joined, has_kept, has_new, has_one, has_range}
 use Rattle.slab_core.proofs.Layers.{id_in_all, of_layer}
 use Rattle.layer_cells.specs.declared.rule.View.{View}
@@ -83,7 +83,7 @@ looks slots id i h v below at_flag s kept homes at small =
       keeps,
       tt,
       subst (λ (l : List ℕ). KeepsWords a l (set s.views id (after_look v (i - vertex_words (subject v)) n))) (sym (set-get_or s.words i 0)) k,
-      (refl, λ z. subst (λ (j : ℕ). has j v.seen ≡ false) here (not_so (has h v.seen) (λ e. (f.seen h e).1 (sym found ∙ z)))),
+      (refl, λ z. subst (λ (j : ℕ). has j v.seen ≡ false) here (false_from_ne_true (has h v.seen) (λ e. (f.seen h e).1 (sym found ∙ z)))),
     )
 
 pub reads : (slots id i : ℕ) (v : View) → Allows (KeepsRule (subject v)) slots id (v, []) i (λ n. n) (Reads (step slots i 0 0 none) (v, []))
@@ -173,7 +173,7 @@ raise_keeps a words views id i h v k at below at_flag whole =
       made = λ j e. ⊎_elim
           (λ (old : has j v.made ≡ true). has_kept j h v.seen (f.made j old))
           (λ (new : has j (h ∷ []) ≡ true). subst (λ (z : ℕ). has z (joined h v.seen) ≡ true) (sym (has_one j h new)) (has_new h v.seen))
-          (either_true (has j v.made) (has j (h ∷ [])) (sym (has_append j v.made (h ∷ [])) ∙ e));
+          (or_cases (has j v.made) (has j (h ∷ [])) (sym (has_append j v.made (h ∷ [])) ∙ e));
     })
 
 pub raises : (slots id i h : ℕ) (v : View) → h < layer_words (subject v) → i ≡ vertex_words (subject v) + h → has_layer (subject v) h v.put ≡ true → Allows (KeepsRule (subject v)) slots id (v, []) i (λ _. 1) (λ _. Raises (step slots i 1 0 none) (v, []) 1)
@@ -210,9 +210,9 @@ joins id other v w s kept at apart there =
     let g = ⊎_elim (λ (t : (other ≡ id) × (b ≡ w)). absurd (apart t.0)) (λ (t : (other ≢ id) × (get_elem? s.views other ≡ some w)). kept.each other w t.1) (at_set s.views id other b w there) in
     let k = keep_words a s.words s.views id b kept (record {
       of = f.of;
-      seen = λ h e. ⊎_elim (λ (x : has h v.seen ≡ true). f.seen h x) (λ (x : has h w.seen ≡ true). g.seen h x) (either_true (has h v.seen) (has h w.seen) (sym (has_append h v.seen w.seen) ∙ e));
+      seen = λ h e. ⊎_elim (λ (x : has h v.seen ≡ true). f.seen h x) (λ (x : has h w.seen ≡ true). g.seen h x) (or_cases (has h v.seen) (has h w.seen) (sym (has_append h v.seen w.seen) ∙ e));
       put = f.put;
-      made = λ h e. has_append h v.seen w.seen ∙ ⊎_elim (λ (x : has h v.made ≡ true). or_left (has h v.seen) (has h w.seen) (f.made h x)) (λ (x : has h w.made ≡ true). or_right (has h v.seen) (has h w.seen) (g.made h x)) (either_true (has h v.made) (has h w.made) (sym (has_append h v.made w.made) ∙ e));
+      made = λ h e. has_append h v.seen w.seen ∙ ⊎_elim (λ (x : has h v.made ≡ true). or_left (has h v.seen) (has h w.seen) (f.made h x)) (λ (x : has h w.made ≡ true). or_right (has h v.seen) (has h w.seen) (g.made h x)) (or_cases (has h v.made) (has h w.made) (sym (has_append h v.made w.made) ∙ e));
     }) in
     keep_words a s.words (set s.views id b) other spent k (record { of = λ e. absurd (off e); seen = λ _ e. absurd (off e); put = λ _ e. absurd (off e); made = λ _ e. absurd (off e) })
 

@@ -1,3 +1,5 @@
 pub mod Tests
+pub mod Ranges
 pub mod Lists
 pub mod Sums
+pub mod Digits

@@ -1,18 +1,13 @@
 -- Numbers in joined lists, in lists that they were joined to, and in lists without a number.
-use Rattle.std.proofs.Common.{◌≡◌, ◌≢◌, ◌⊎◌, inl, inr, ℕ, zero, suc, ◌+◌, ◌<◌, ◌≤◌, ◌==◌, eq-eqb, ne_eqb, List, [], ◌∷◌, ◌++◌, length, take, drop, get_or, Bool, true, false, not, ◌||◌, if◌then◌else◌, true≢false, refl, sym, ◌∙◌, subst, ⊎_elim, arith}
-use Rattle.std.specs.List.{range_with_len}
+use Rattle.std.proofs.Common.{◌≡◌, ◌≢◌, ◌⊎◌, inl, inr, ℕ, zero, suc, ◌+◌, ◌<◌, ◌≤◌, ◌==◌, eq-eqb, ne_eqb, List, [], ◌∷◌, ◌++◌, length, take, drop, get_or, Bool, true, false, not, ◌||◌, if◌then◌else◌, true≢false, refl, sym, ◌∙◌, subst, ⊎_elim, arith, All, length-append}
+use Rattle.std.specs.List.{range_with_len, list_any}
 use Rattle.std.proofs.lemmas.Bool.Decides.{nat_tests}
 use Rattle.std.proofs.lemmas.List.Folds.{list_any-append}
 use Rattle.std.proofs.lemmas.List.Sums.{sum_by-append, sum_by-cons}
-use Rattle.list_words.specs.Words.{has, has_all, times, joined, without}
-use Rattle.list_words.proofs.Tests.{and_true, either_true, or_left, or_right, clash, when_true, when_false}
-
-pub same_or_other : (x y : ℕ) → (x ≡ y) ⊎ (x ≢ y)
-same_or_other x y = by_test (x == y) refl
-  where
-    by_test : (b : Bool) → (x == y) ≡ b → (x ≡ y) ⊎ (x ≢ y)
-    by_test true e = inl (grind (arith, nat_tests))
-    by_test false e = inr (λ s. clash (x == y) (eq-eqb x y s) e)
+use Rattle.std.proofs.lemmas.Bool.{cases_eq, and_parts, or_cases, or_left, or_right, cases_Bool}
+use Rattle.std.proofs.lemmas.List.{get_or_append_left, get_or-append-add}
+use Rattle.list_words.specs.Words.{has, has_all, times, joined, without, once_below, EachOnce}
+use Rattle.list_words.proofs.Tests.{when_true, when_false}
 
 pub self_eq : (x : ℕ) → (x == x) ≡ true
 self_eq x = grind (arith, nat_tests)
@@ -24,7 +19,7 @@ pub has_more : (x : ℕ) (xs ys : List ℕ) → has x xs ≡ true → has x (xs 
 has_more x xs ys e = has_append x xs ys ∙ or_left (has x xs) (has x ys) e
 
 pub has_one : (x y : ℕ) → has x (y ∷ []) ≡ true → x ≡ y
-has_one x y e = ⊎_elim (λ (t : (y == x) ≡ true). let s : y ≡ x = grind (arith, nat_tests) in sym s) (λ (t : false ≡ true). absurd (true≢false (sym t))) (either_true (y == x) false e)
+has_one x y e = ⊎_elim (λ (t : (y == x) ≡ true). let s : y ≡ x = grind (arith, nat_tests) in sym s) (λ (t : false ≡ true). absurd (true≢false (sym t))) (or_cases (y == x) false e)
 
 pub has_last : (x : ℕ) (xs : List ℕ) → has x (xs ++ x ∷ []) ≡ true
 has_last x xs = has_append x xs (x ∷ []) ∙ or_right (has x xs) (has x (x ∷ [])) (or_left (x == x) false (self_eq x))
@@ -36,7 +31,7 @@ has_at (x ∷ xs) (suc i) d lt = or_right (x == get_or xs i d) (has (get_or xs i
 
 -- a number in a list to which one was appended
 pub has_pushed : (x y : ℕ) (xs : List ℕ) → has x (xs ++ y ∷ []) ≡ true → (x ≡ y) ⊎ (has x xs ≡ true)
-has_pushed x y xs e = ⊎_elim (λ (o : has x xs ≡ true). inr o) (λ (n : has x (y ∷ []) ≡ true). inl (has_one x y n)) (either_true (has x xs) (has x (y ∷ [])) (sym (has_append x xs (y ∷ [])) ∙ e))
+has_pushed x y xs e = ⊎_elim (λ (o : has x xs ≡ true). inr o) (λ (n : has x (y ∷ []) ≡ true). inl (has_one x y n)) (or_cases (has x xs) (has x (y ∷ [])) (sym (has_append x xs (y ∷ [])) ∙ e))
 
 pub has_joined : (x y : ℕ) (xs : List ℕ) → has x (joined y xs) ≡ true → (x ≡ y) ⊎ (has x xs ≡ true)
 has_joined x y xs e = by_test (has y xs) e
@@ -68,20 +63,20 @@ has_without k h (x ∷ xs) e = by_test (x == h) refl e (has_without k h xs)
     by_test false is e i = ⊎_elim
         (λ (s : (x == k) ≡ true). ((λ (z : k ≡ h). let same : x ≡ k = grind (arith, nat_tests) in true≢false (sym (eq-eqb x h (same ∙ z)) ∙ is)), or_left (x == k) (has k xs) s))
         (λ (o : has k (without h xs) ≡ true). let r = i o in (r.0, or_right (x == k) (has k xs) r.1))
-        (either_true (x == k) (has k (without h xs)) e)
+        (or_cases (x == k) (has k (without h xs)) e)
 
 pub has_among : (x : ℕ) (xs ys : List ℕ) → has_all xs ys ≡ true → has x xs ≡ true → has x ys ≡ true
 has_among x [] ys all e = absurd (true≢false (sym e))
 has_among x (z ∷ zs) ys all e =
-    let a = and_true (has z ys) (has_all zs ys) all in
-    ⊎_elim (λ (s : (z == x) ≡ true). let p : z ≡ x = grind (arith, nat_tests) in subst (λ (y : ℕ). has y ys ≡ true) p a.0) (λ (o : has x zs ≡ true). has_among x zs ys a.1 o) (either_true (z == x) (has x zs) e)
+    let a = and_parts (has z ys) (has_all zs ys) all in
+    ⊎_elim (λ (s : (z == x) ≡ true). let p : z ≡ x = grind (arith, nat_tests) in subst (λ (y : ℕ). has y ys ≡ true) p a.0) (λ (o : has x zs ≡ true). has_among x zs ys a.1 o) (or_cases (z == x) (has x zs) e)
 
 pub has_range : (x a n : ℕ) → a ≤ x → x < a + n → has x (range_with_len a n) ≡ true
 has_range x a zero lo hi = absurd (omega arith)
 has_range x a (suc n) lo hi = ⊎_elim
     (λ (s : x ≡ a). or_left (a == x) (has x (range_with_len (a + 1) n)) (eq-eqb a x (sym s)))
     (λ (o : x ≢ a). or_right (a == x) (has x (range_with_len (a + 1) n)) (has_range x (a + 1) n (omega arith) (omega arith)))
-    (same_or_other x a)
+    (cases_eq x a)
 
 pub times_append : (x : ℕ) (xs ys : List ℕ) → times x (xs ++ ys) ≡ times x xs + times x ys
 times_append x xs ys = sum_by-append (λ y. if y == x then 1 else 0) xs ys
@@ -125,3 +120,26 @@ same_part lo n (x ∷ xs) [] e same = absurd (omega arith)
 same_part zero zero (x ∷ xs) (y ∷ ys) e same = refl
 same_part zero (suc n) (x ∷ xs) (y ∷ ys) e same = λ i. same 0 (omega arith) (omega arith) i ∷ same_part zero n xs ys (omega arith) (λ k lo hi. same (suc k) (omega arith) (omega arith)) i
 same_part (suc lo) n (x ∷ xs) (y ∷ ys) e same = same_part lo n xs ys (omega arith) (λ k l h. same (suc k) (omega arith) (omega arith))
+
+-- a place at which a test holds, where it holds somewhere
+pub place_where : {X : Type 0} (t : X → Bool) (xs : List X) (d : X) → list_any t xs ≡ true → (k : ℕ) × (k < length xs) × (t (get_or xs k d) ≡ true)
+place_where t [] d h = absurd (true≢false (sym h))
+place_where t (x ∷ xs) d h =
+    elim (or_cases (t x) (list_any t xs) h) [
+      | inl e ↦ (0, omega arith, e)
+      | inr e ↦ (let r = place_where t xs d e in (suc r.0, (let l = r.1 in omega arith), r.2))
+    ]
+
+-- what holds of each element of joined lists holds of each list's
+pub all_left : {X : Type 0} (P : X → Type 0) (xs ys : List X) → All P (xs ++ ys) → All P xs
+all_left P xs ys h = λ k d lt. subst P (get_or_append_left xs ys d k lt) (h k d (let l = length-append xs ys in omega arith))
+
+pub all_right : {X : Type 0} (P : X → Type 0) (xs ys : List X) → All P (xs ++ ys) → All P ys
+all_right P xs ys h = λ k d lt. subst P (get_or-append-add xs ys k d) (h (length xs + k) d (let l = length-append xs ys in omega arith))
+
+-- each number below n stands in a list in which each stands once
+pub each_stands : (n x : ℕ) (xs : List ℕ) → EachOnce n xs → x < n → has x xs ≡ true
+each_stands n x xs once lt = ⊎_elim
+    (λ (t : has x xs ≡ true). t)
+    (λ (f : has x xs ≡ false). let z = times_has x xs f in let o = once x in let one : once_below x n ≡ 1 = grind (arith, nat_tests) in absurd (omega arith))
+    (cases_Bool (has x xs))

@@ -1,11 +1,12 @@
 -- Sums over lists in which each number stands once, and how many different numbers lists can have.
-use Rattle.std.proofs.Common.{◌≡◌, ◌≢◌, ℕ, zero, suc, ◌+◌, ◌*◌, ◌<◌, ◌≤◌, ◌==◌, eq-eqb, ne_eqb, List, [], ◌∷◌, length, Bool, true, false, not, if◌then◌else◌, refl, sym, ap, ◌∙◌, arith}
+use Rattle.std.proofs.Common.{◌≡◌, ◌≢◌, ℕ, zero, suc, ◌+◌, ◌*◌, ◌<◌, ◌≤◌, ◌==◌, eq-eqb, ne_eqb, List, [], ◌∷◌, length, Bool, true, false, not, if◌then◌else◌, refl, sym, ap, ◌∙◌, arith, map, All}
 use Rattle.std.specs.List.{sum_by, flat_map}
 use Rattle.std.proofs.lemmas.Bool.Decides.{nat_tests}
-use Rattle.std.proofs.lemmas.List.{length-append}
 use Rattle.std.proofs.lemmas.List.Sums.{sum_by-append, sum_by-cons}
+use Rattle.std.proofs.lemmas.Bool.{both_ways}
+use Rattle.std.proofs.lemmas.List.Elements.{All-head, All-tail}
 use Rattle.list_words.specs.Words.{has, times, without, once_below, EachOnce}
-use Rattle.list_words.proofs.Tests.{clash, when_true, when_false}
+use Rattle.list_words.proofs.Tests.{when_true, when_false}
 use Rattle.list_words.proofs.Lists.{self_eq, times_append, times_cons, times_has, has_without}
 
 -- how often a number stands in joined lists
@@ -17,20 +18,24 @@ times-flat_map f x (r ∷ rs) =
     let c = sum_by-cons (λ r. times x (f r)) r rs in
     omega arith
 
-pub length-flat_map_sum : {X Y : Type 0} (f : X → List Y) (rs : List X) → length (flat_map f rs) ≡ sum_by (λ r. length (f r)) rs
-length-flat_map_sum f [] = refl
-length-flat_map_sum f (r ∷ rs) =
-    let a = length-append (f r) (flat_map f rs) in
-    let h = length-flat_map_sum f rs in
-    let c = sum_by-cons (λ r. length (f r)) r rs in
-    omega arith
+-- the sum over a list of what a function gives, and over joined lists
+pub sum_by-map : {X Y : Type 0} (q : Y → ℕ) (f : X → Y) (xs : List X) → sum_by q (map f xs) ≡ sum_by (λ x. q (f x)) xs
+sum_by-map q f [] = refl
+sum_by-map q f (x ∷ xs) = sum_by-cons q (f x) (map f xs) ∙ ap (λ n. q (f x) + n) (sum_by-map q f xs) ∙ sym (sum_by-cons (λ x. q (f x)) x xs)
 
-pub sum-flat_map : {X : Type 0} (g : ℕ → ℕ) (f : X → List ℕ) (rs : List X) → sum_by g (flat_map f rs) ≡ sum_by (λ r. sum_by g (f r)) rs
-sum-flat_map g f [] = refl
-sum-flat_map g f (r ∷ rs) =
-    let a = sum_by-append g (f r) (flat_map f rs) in
-    let h = sum-flat_map g f rs in
-    let c = sum_by-cons (λ r. sum_by g (f r)) r rs in
+pub sum_by-flat_map : {X Y : Type 0} (q : Y → ℕ) (f : X → List Y) (xs : List X) → sum_by q (flat_map f xs) ≡ sum_by (λ x. sum_by q (f x)) xs
+sum_by-flat_map q f [] = refl
+sum_by-flat_map q f (x ∷ xs) =
+    sum_by-append q (f x) (flat_map f xs) ∙ ap (λ n. sum_by q (f x) + n) (sum_by-flat_map q f xs) ∙ sym (sum_by-cons (λ x. sum_by q (f x)) x xs)
+
+-- sums of functions that agree on a list
+pub sums_agree : {X : Type 0} (f g : X → ℕ) (xs : List X) → All (λ x. f x ≡ g x) xs → sum_by f xs ≡ sum_by g xs
+sums_agree f g [] all = refl
+sums_agree f g (x ∷ xs) all =
+    let a = sum_by-cons f x xs in
+    let b = sum_by-cons g x xs in
+    let h = All-head (λ x. f x ≡ g x) x xs all in
+    let t = sums_agree f g xs (All-tail (λ x. f x ≡ g x) x xs all) in
     omega arith
 
 -- the sum over a list without a number
@@ -77,7 +82,7 @@ at_most_without n x xs le = by_test (x == n) refl
   where
     by_test : (b : Bool) → (x == n) ≡ b → times x (without n xs) ≤ 1
     by_test true e = let s : x ≡ n = grind (arith, nat_tests) in let z = gone_without n xs in let p : times x (without n xs) ≡ times n (without n xs) = ap (λ (k : ℕ). times k (without n xs)) s in omega arith
-    by_test false e = let ne : x ≢ n = (λ (s : x ≡ n). clash (x == n) (eq-eqb x n s) e) in let t = times_without n x xs ne in omega arith
+    by_test false e = let ne : x ≢ n = (λ (s : x ≡ n). both_ways (x == n) e (eq-eqb x n s)) in let t = times_without n x xs ne in omega arith
 
 -- the numbers below n, summed
 abbrev pub sum_below : (ℕ → ℕ) → ℕ → ℕ
@@ -112,7 +117,7 @@ sum_once g (suc n) xs once =
             let z : 0 ≡ once_below x n = grind (arith, nat_tests) in
             p ∙ gone_without n xs ∙ z
         by_test false e =
-            let ne : x ≢ n = (λ (s : x ≡ n). clash (x == n) (eq-eqb x n s) e) in
+            let ne : x ≢ n = (λ (s : x ≡ n). both_ways (x == n) e (eq-eqb x n s)) in
             let same : once_below x (suc n) ≡ once_below x n = grind (arith, nat_tests) in
             times_without n x xs ne ∙ once x ∙ same
 

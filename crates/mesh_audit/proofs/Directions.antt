@@ -3,6 +3,7 @@ use Rattle.std.proofs.Common.{◌≡◌, ◌⊎◌, inl, inr, ℕ, ◌+◌, List
 use Rattle.std.proofs.lemmas.Bool.{eqb-true, eq-eqb, or_cases, or_left, or_right, and_parts, and_from, and_left, ne_eqb}
 use Rattle.std.proofs.lemmas.List.Elements.{All-head, All-tail, All-nil, All-cons}
 use Rattle.std.specs.List.{count_by, All}
+use Rattle.list_words.proofs.Tests.{same_tests}
 use Rattle.mesh_audit.specs.declared.triangles.Triangle.{Triangle}
 use Rattle.mesh_files.specs.Verdicts.{same_direction}
 use Rattle.mesh_audit.specs.Triangles.{is_pair, AreTriangles}
@@ -62,12 +63,6 @@ flip_at a b c x y z h = go (turn_of a b c x y z h)
     go (none p q r) = (λ i. same_direction (x ∷ y ∷ z ∷ []) (p i ∷ q i ∷ r i ∷ [])) ∙ first_turn x y z
     go (once p q r) = (λ i. same_direction (x ∷ y ∷ z ∷ []) (p i ∷ q i ∷ r i ∷ [])) ∙ third_turn x y z
     go (twice p q r) = (λ i. same_direction (x ∷ y ∷ z ∷ []) (p i ∷ q i ∷ r i ∷ [])) ∙ second_turn x y z
-
-same_tests : (p q : Bool) → (p ≡ true → q ≡ true) → (q ≡ true → p ≡ true) → p ≡ q
-same_tests true true f g = refl
-same_tests true false f g = sym (f refl)
-same_tests false true f g = g refl
-same_tests false false f g = refl
 
 pub direction_flips : (s t : List ℕ) → length s ≡ 3 → length t ≡ 3 → same_direction s t ≡ same_direction t s
 direction_flips s t p q =

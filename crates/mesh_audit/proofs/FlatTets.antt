@@ -5,57 +5,35 @@ use Rattle.std.proofs.lemmas.List.Elements.{All-nil, All-cons}
 use Rattle.definitions.specs.declared.Place.{Place}
 use Rattle.definitions.specs.Vectors.{det_of, minus, place_at}
 use Rattle.definitions.specs.Soundness.{triangles_of}
-use Rattle.exact.specs.Polynomials.{Expression, variable, constant, plus, times, negate}
+use Rattle.exact.specs.Polynomials.{Expression, constant}
 use Rattle.exact.proofs.Ring.{ring}
+use Rattle.exact.specs.Coordinates.{Coordinates, difference, dot_expression, cross_expression, first, second, third}
 use Rattle.mesh_files.specs.Verdicts.{is_positive, is_above_zero}
 use Rattle.mesh_audit.specs.Triangles.{AreDistinct, IsPlain}
 
-record Coordinates : Type 0 where
-  x : Expression
-  y : Expression
-  z : Expression
-
-abbrev less : Expression → Expression → Expression
-less a b = plus a (negate b)
-
-abbrev from : ℕ → ℕ → ℕ → Coordinates
-from a b c = record { x = variable a; y = variable b; z = variable c }
-
-abbrev difference : Coordinates → Coordinates → Coordinates
-difference p q = record { x = less p.x q.x; y = less p.y q.y; z = less p.z q.z }
-
-abbrev det_expression : Coordinates → Coordinates → Coordinates → Expression
-det_expression p q r = plus (plus (times p.x (less (times q.y r.z) (times q.z r.y))) (times p.y (less (times q.z r.x) (times q.x r.z)))) (times p.z (less (times q.x r.y) (times q.y r.x)))
-
-abbrev first : Coordinates
-first = from 0 1 2
-
-abbrev second : Coordinates
-second = from 3 4 5
-
-abbrev third : Coordinates
-third = from 6 7 8
+abbrev triple_expression : Coordinates → Coordinates → Coordinates → Expression
+triple_expression p q r = dot_expression p (cross_expression q r)
 
 abbrev values : Place → Place → Place → List ℤ
 values p q r = p.x ∷ p.y ∷ p.z ∷ q.x ∷ q.y ∷ q.z ∷ r.x ∷ r.y ∷ r.z ∷ []
 
 no_first : (p u w : Place) → det_of (minus p p) u w ≡ pos 0
-no_first p u w = ring (values p u w) (det_expression (difference first first) second third) (constant (pos 0)) refl
+no_first p u w = ring (values p u w) (triple_expression (difference first first) second third) (constant (pos 0)) refl
 
 no_second : (p u w : Place) → det_of u (minus p p) w ≡ pos 0
-no_second p u w = ring (values p u w) (det_expression second (difference first first) third) (constant (pos 0)) refl
+no_second p u w = ring (values p u w) (triple_expression second (difference first first) third) (constant (pos 0)) refl
 
 no_third : (p u w : Place) → det_of u w (minus p p) ≡ pos 0
-no_third p u w = ring (values p u w) (det_expression second third (difference first first)) (constant (pos 0)) refl
+no_third p u w = ring (values p u w) (triple_expression second third (difference first first)) (constant (pos 0)) refl
 
 same_first : (u w : Place) → det_of u u w ≡ pos 0
-same_first u w = ring (values u w w) (det_expression first first second) (constant (pos 0)) refl
+same_first u w = ring (values u w w) (triple_expression first first second) (constant (pos 0)) refl
 
 same_ends : (u w : Place) → det_of u w u ≡ pos 0
-same_ends u w = ring (values u w w) (det_expression first second first) (constant (pos 0)) refl
+same_ends u w = ring (values u w w) (triple_expression first second first) (constant (pos 0)) refl
 
 same_last : (u w : Place) → det_of w u u ≡ pos 0
-same_last u w = ring (values u w w) (det_expression second first first) (constant (pos 0)) refl
+same_last u w = ring (values u w w) (triple_expression second first first) (constant (pos 0)) refl
 
 not_above : (n : ℤ) → n ≡ pos 0 → is_above_zero n ≡ true → ⊥
 not_above n e h = let f : false ≡ true = sym (ap is_above_zero e) ∙ h in cc

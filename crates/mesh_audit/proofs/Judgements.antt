@@ -1,7 +1,8 @@
 -- From what was found about tetrahedra to the verdict on them.
-use Rattle.std.proofs.Common.{◌≡◌, ℕ, ◌^◌, ◌<◌, List, length, Bool, true, false, not, Option, Some, None, refl, sym, ◌∙◌, arith}
+use Rattle.std.proofs.Common.{◌≡◌, ℕ, ◌^◌, ◌<◌, List, length, true, not, Option, Some, None, refl, ◌∙◌, arith}
 use Rattle.std.proofs.lemmas.List.Elements.{All-weaker}
 use Rattle.std.specs.List.{All, position}
+use Rattle.std.proofs.lemmas.Bool.{not-false}
 use Rattle.definitions.specs.declared.Place.{Place}
 use Rattle.definitions.specs.Soundness.{all_triangles}
 use Rattle.formats.specs.declared.Verdict.{Verdict}
@@ -11,12 +12,8 @@ use Rattle.mesh_files.specs.Verdicts.{found_or, is_positive}
 use Rattle.mesh_audit.proofs.Positions.{all_fail}
 use Rattle.mesh_audit.proofs.SortedTriangles.{all_plain}
 
-not_not : (b : Bool) → not b ≡ false → b ≡ true
-not_not true e = refl
-not_not false e = sym e
-
 pub positive_from_none : (places : List Place) (ts : List (List ℕ)) → position (λ t. not (is_positive places t)) ts ≡ None → All (λ t. is_positive places t ≡ true) ts
-positive_from_none places ts h k d lt = not_not _ (all_fail (λ t. not (is_positive places t)) ts h k d lt)
+positive_from_none places ts h k d lt = not-false _ (all_fail (λ t. not (is_positive places t)) ts h k d lt)
 
 pub plain_from_none : (places : List Place) (ts : List (List ℕ)) → length places < 2 ^ 30 → AreTets ts → AreOf (length places) ts → position (λ t. not (is_positive places t)) ts ≡ None → All IsPlain (all_triangles ts)
 plain_from_none places ts few tets of h =

@@ -1,7 +1,8 @@
 -- Triangles with the same nodes have the same key, and only those.
-use Rattle.std.proofs.Common.{◌≡◌, ◌≢◌, ℕ, ◌+◌, ◌-◌, ◌*◌, ◌^◌, ◌<◌, ◌≤◌, ◌⊎◌, inl, inr, List, [], ◌∷◌, Bool, true, false, ◌&&◌, ◌||◌, eqb, refl, sym, ◌∙◌, subst, arith, min, max}
+use Rattle.std.proofs.Common.{◌≡◌, ◌≢◌, ℕ, ◌+◌, ◌-◌, ◌*◌, ◌^◌, ◌<◌, ◌≤◌, ◌⊎◌, inl, inr, List, [], ◌∷◌, true, false, ◌&&◌, ◌||◌, eqb, refl, sym, ◌∙◌, subst, arith, min, max}
 use Rattle.std.specs.List.{list_all}
 use Rattle.std.proofs.lemmas.Bool.{cases_eq, cases_lt, eqb-true, eq-eqb, or_cases, or_left, or_right, and_parts, and_from}
+use Rattle.list_words.proofs.Tests.{same_tests}
 use Rattle.definitions.specs.Soundness.{same_nodes, is_in}
 use Rattle.mesh_audit.specs.Triangles.{key_of, AreDistinct, IsPlain}
 use Rattle.mesh_files.specs.Verdicts.{same_direction}
@@ -200,12 +201,6 @@ unfolding key_of
 numbers_from_key a b c x y z p q r s e =
     let d = digits (low a b c) (mid a b c) (high a b c) (low x y z) (mid x y z) (high x y z) p q r s e in
     record { low = d.0; mid = d.1; high = d.2 }
-
-same_tests : (p q : Bool) → (p ≡ true → q ≡ true) → (q ≡ true → p ≡ true) → p ≡ q
-same_tests true true f g = refl
-same_tests true false f g = sym (f refl)
-same_tests false true f g = g refl
-same_tests false false f g = refl
 
 same_key_at : (a b c x y z : ℕ) → AreDistinct a b c → AreDistinct x y z → mid a b c < 2 ^ 32 → high a b c < 2 ^ 32 → mid x y z < 2 ^ 32 → high x y z < 2 ^ 32 →
     same_nodes (a ∷ b ∷ c ∷ []) (x ∷ y ∷ z ∷ []) ≡ eqb (key_of (x ∷ y ∷ z ∷ [])) (key_of (a ∷ b ∷ c ∷ []))

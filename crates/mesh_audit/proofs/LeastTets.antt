@@ -5,6 +5,7 @@ use Rattle.std.proofs.lemmas.List.Elements.{All-head, All-tail, All-append, All-
 use Rattle.std.proofs.lemmas.List.Sorted.{All-permutation, Contains-permutation}
 use Rattle.std.specs.List.{All}
 use Rattle.std.specs.List.Sorted.{IsPermutation}
+use Rattle.std.proofs.lemmas.Bool.{both_ways}
 use Rattle.mesh_audit.specs.declared.triangles.Triangle.{Triangle}
 use Rattle.mesh_audit.specs.Triangles.{lesser_tet, least_with, LeastTet, HasTet}
 
@@ -12,10 +13,7 @@ pub least_none : (p : Triangle → Bool) → LeastTet p [] None
 least_none p = All-nil (λ t. p t ≡ false)
 
 false_then : (p : Triangle → Bool) (m : ℕ) (ys : List Triangle) → All (λ t. p t ≡ false) ys → All (λ t. p t ≡ true → m ≤ t.tet) ys
-false_then p m ys all k d lt = λ e. absurd (not_both (p (get_or ys k d)) (all k d lt) e)
-  where
-    not_both : (b : Bool) → b ≡ false → b ≡ true → ⊥
-    not_both b e f = cc
+false_then p m ys all k d lt = λ e. absurd (both_ways (p (get_or ys k d)) (all k d lt) e)
 
 pub least_skip : (p : Triangle → Bool) (xs ys : List Triangle) (o : Option ℕ) → LeastTet p xs o → All (λ t. p t ≡ false) ys → LeastTet p (xs ++ ys) o
 least_skip p xs ys None h all = All-append (λ t. p t ≡ false) xs ys h all
@@ -79,14 +77,8 @@ least_agrees p q xs (Some m) same h = record {
 
 pub least_unique : (p : Triangle → Bool) (xs : List Triangle) (o u : Option ℕ) → LeastTet p xs o → LeastTet p xs u → o ≡ u
 least_unique p xs None None h g = refl
-least_unique p xs None (Some m) h g = absurd (not_both _ (All-contains (λ t. p t ≡ false) xs g.one.triangle h g.one.there) g.one.passes)
-  where
-    not_both : (b : Bool) → b ≡ false → b ≡ true → ⊥
-    not_both b e f = cc
-least_unique p xs (Some n) None h g = absurd (not_both _ (All-contains (λ t. p t ≡ false) xs h.one.triangle g h.one.there) h.one.passes)
-  where
-    not_both : (b : Bool) → b ≡ false → b ≡ true → ⊥
-    not_both b e f = cc
+least_unique p xs None (Some m) h g = absurd (both_ways _ (All-contains (λ t. p t ≡ false) xs g.one.triangle h g.one.there) g.one.passes)
+least_unique p xs (Some n) None h g = absurd (both_ways _ (All-contains (λ t. p t ≡ false) xs h.one.triangle g h.one.there) h.one.passes)
 least_unique p xs (Some n) (Some m) h g =
     let a : m ≤ h.one.triangle.tet = All-contains (λ t. p t ≡ true → m ≤ t.tet) xs h.one.triangle g.least h.one.there h.one.passes in
     let b : n ≤ g.one.triangle.tet = All-contains (λ t. p t ≡ true → n ≤ t.tet) xs g.one.triangle h.least g.one.there g.one.passes in

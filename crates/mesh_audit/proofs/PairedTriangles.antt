@@ -3,13 +3,14 @@ use Rattle.std.proofs.Common.{◌≡◌, ◌⊎◌, inl, inr, ℕ, ◌+◌, ◌�
 use Rattle.std.proofs.lemmas.Bool.{eqb-true, eq-eqb, and_parts, and_from, or_cases, or_left, or_right}
 use Rattle.std.proofs.lemmas.List.Sums.{get_or-le-sum_by}
 use Rattle.std.specs.List.{All, count_by}
+use Rattle.list_words.proofs.Sums.{sums_agree}
 use Rattle.definitions.specs.Soundness.{same_nodes, all_triangles, tets_at_triangle}
 use Rattle.triangle_laws.specs.Boundary.{turned, IsPaired}
 use Rattle.mesh_files.specs.Verdicts.{same_direction, tets_in_direction}
 use Rattle.mesh_audit.specs.Triangles.{IsPlain, AreDistinct}
 use Rattle.mesh_audit.proofs.Keys.{same_key, direction_key, Among, within_from_all, all_from_within}
 use Rattle.mesh_audit.proofs.Directions.{Turn, none, once, twice, turn_of, direction_itself}
-use Rattle.mesh_audit.proofs.Sums.{sum_add, sum_agree}
+use Rattle.mesh_audit.proofs.Sums.{sum_add}
 
 -- the three ways in which a triangle is another turned over
 data Over (a b c x y z : ℕ) : Type 0 where
@@ -163,7 +164,7 @@ turned_from_nodes s t p q same other = go (turned s t) (nodes_by_direction s t p
 -- in how many tetrahedra a triangle is: those that have it in its direction, and those that have it turned over
 pub counted_by_direction : (ts : List (List ℕ)) → All IsPlain (all_triangles ts) → (t : List ℕ) → IsPlain t → tets_at_triangle ts t ≡ tets_in_direction ts t + count_by (turned t) (all_triangles ts)
 counted_by_direction ts plain t p =
-    sum_agree (λ s. bit (same_nodes t s)) (λ s. bit (same_direction t s) + bit (turned t s)) (all_triangles ts) (λ k d lt. nodes_by_direction t (get_or (all_triangles ts) k d) p (plain k d lt))
+    sums_agree (λ s. bit (same_nodes t s)) (λ s. bit (same_direction t s) + bit (turned t s)) (all_triangles ts) (λ k d lt. nodes_by_direction t (get_or (all_triangles ts) k d) p (plain k d lt))
     ∙ sum_add (λ s. bit (same_direction t s)) (λ s. bit (turned t s)) (all_triangles ts)
 
 -- what is known of the triangles of tetrahedra

@@ -12,13 +12,6 @@ sum_add f g (x ∷ xs) = sum_by-cons (λ y. f y + g y) x xs ∙ ap (λ n. (f x +
     regroup : (a b c d : ℕ) → (a + b) + (c + d) ≡ (a + c) + (b + d)
     regroup a b c d = omega arith
 
-pub sum_agree : {X : Type 0} (f g : X → ℕ) (xs : List X) → All (λ x. f x ≡ g x) xs → sum_by f xs ≡ sum_by g xs
-sum_agree f g [] all = refl
-sum_agree f g (x ∷ xs) all =
-    let head : f x ≡ g x = All-head (λ y. f y ≡ g y) x xs all in
-    let rest : sum_by f xs ≡ sum_by g xs = sum_agree f g xs (All-tail (λ y. f y ≡ g y) x xs all) in
-    sum_by-cons f x xs ∙ (λ i. head i + rest i) ∙ sym (sum_by-cons g x xs)
-
 pub all_flat : {X Y : Type 0} (P : Y → Type 0) (g : X → List Y) (xs : List X) → All (λ x. All P (g x)) xs → All P (flat_map g xs)
 all_flat P g [] all = All-nil P
 all_flat P g (x ∷ xs) all = All-append P (g x) (flat_map g xs) (All-head (λ y. All P (g y)) x xs all) (all_flat P g xs (All-tail (λ y. All P (g y)) x xs all))

@@ -1,21 +1,18 @@
 -- The number that digits write, from their parts.
-use Rattle.std.proofs.Common.{◌≡◌, ◌≢◌, ℕ, ◌+◌, ◌-◌, ◌*◌, ◌^◌, ◌<◌, ◌≤◌, List, [], ◌∷◌, ◌++◌, length, take, drop, get_or, Bool, true, false, ◌&&◌, nat_lt, nat_le, cond, Option, Some, None, if◌then◌else◌, refl, sym, ap, ◌∙◌, subst, arith, zero, suc}
+use Rattle.std.proofs.Common.{◌≡◌, ℕ, ◌+◌, ◌-◌, ◌*◌, ◌^◌, ◌<◌, ◌≤◌, List, [], ◌∷◌, ◌++◌, length, drop, get_or, Bool, true, false, ◌&&◌, nat_le, Some, None, if◌then◌else◌, refl, sym, ap, ◌∙◌, arith, zero, suc}
 use Rattle.std.proofs.lemmas.Bool.Decides.{nat_tests}
 use Rattle.std.proofs.lemmas.Bool.{and_parts, leb-true, leb-false}
 use Rattle.std.proofs.lemmas.List.{at_drop_more}
 use Rattle.std.specs.List.{list_all}
 use Rattle.std.specs.Char.{is_ascii_digit, digit_value}
 use Rattle.std.specs.Str.Parse.{digits_value, digits_value_after}
+use Rattle.list_words.proofs.Digits.{digits_grow}
 
 pub digit_is : (b : ℕ) → is_ascii_digit b ≡ true → digit_value b ≡ b - 48
 digit_is b h = grind (arith, nat_tests)
 
 pub digit_small : (b : ℕ) → is_ascii_digit b ≡ true → digit_value b < 10
 digit_small b h = grind (arith, nat_tests)
-
-pub digits_grow : (n : ℕ) (ds : List ℕ) → n ≤ digits_value_after 10 n ds
-digits_grow n [] = omega arith
-digits_grow n (d ∷ ds) = let h = digits_grow (n * 10 + digit_value d) ds in omega arith
 
 pub one_more_digit : (digits : List ℕ) (i n : ℕ) → i < length digits → list_all is_ascii_digit (drop i digits) ≡ true → digits_value_after 10 n (drop i digits) ≡ digits_value 10 digits → n * 10 + (get_or digits i 0 - 48) ≤ digits_value 10 digits
 one_more_digit digits i n lt all e =

@@ -1,8 +1,8 @@
 -- A decimal in units of 1/8192, from its whole part and its fraction.
-use Rattle.std.proofs.Common.{◌≡◌, ◌≢◌, ◌⊎◌, inl, inr, ℕ, ◌+◌, ◌-◌, ◌*◌, ◌/◌, ◌%◌, ◌^◌, ◌<◌, ◌≤◌, List, [], ◌∷◌, ◌++◌, length, Bool, true, false, ◌&&◌, eqb, ltb, refl, sym, ap, ◌∙◌, subst, arith, zero, suc}
+use Rattle.std.proofs.Common.{◌≡◌, ◌≢◌, ◌⊎◌, inl, inr, ℕ, ◌+◌, ◌-◌, ◌*◌, ◌/◌, ◌%◌, ◌^◌, ◌<◌, ◌≤◌, List, [], ◌++◌, length, Bool, true, false, eqb, sym, ap, ◌∙◌, subst, arith, zero, suc}
 use Rattle.std.proofs.Math.Nat.{mul-mod_left, mul-div_cancel, mul_right_comm}
 use Rattle.std.proofs.lemmas.Nat.{pow-add, div-add-mod'}
-use Rattle.std.proofs.lemmas.Bool.{eqb-true, eq-eqb, ne_eqb, lt-ltb, le-ltb, and_from, and_left, and_right, cases_eq}
+use Rattle.std.proofs.lemmas.Bool.{eq-eqb, ne_eqb, lt-ltb, le-ltb, and_from, and_left, and_right, both_ways}
 use Rattle.std.proofs.lemmas.List.{length-append}
 use Rattle.std.specs.List.{list_all}
 use Rattle.std.specs.Char.{is_ascii_digit}
@@ -157,12 +157,9 @@ ended front behind few rest = go (Rattle.std.proofs.lemmas.Bool.cases_lt (length
 pub fine_behind : (front behind : List ℕ) → length front ≤ 13 → (length front < 13 → behind ≡ []) → list_all is_ascii_digit behind ≡ true → list_all (λ b. eqb b 48) behind ≡ false → (k : ℕ) → digits_value 10 (front ++ behind) * 8192 ≢ k * 10 ^ length (front ++ behind)
 fine_behind front behind few rest digits some k e = go (ended front behind few rest)
   where
-    not_both : (b : Bool) → b ≡ false → b ≡ true → ⊥
-    not_both b e f = cc
-
     go : (length front ≡ 13) ⊎ (behind ≡ []) → ⊥
-    go (inl len) = not_both _ some (zero_is_zeros behind digits (long_fraction front behind k len digits e).0)
-    go (inr none) = not_both _ some (ap (list_all (λ b. eqb b 48)) none)
+    go (inl len) = both_ways _ some (zero_is_zeros behind digits (long_fraction front behind k len digits e).0)
+    go (inr none) = both_ways _ some (ap (list_all (λ b. eqb b 48)) none)
 
 multiple : (n k : ℕ) → n ≡ k * 1220703125 → n % 1220703125 ≡ 0
 multiple n k e = omega arith

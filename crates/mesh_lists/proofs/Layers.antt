@@ -1,5 +1,5 @@
 -- The layers of the nodes of a lattice tetrahedron's pieces, and numberings that hold them.
-use Rattle.std.proofs.Common.{◌≡◌, ℕ, inl, inr, ◌+◌, ◌*◌, ◌/◌, ◌<◌, ◌≤◌, ◌==◌, arith, sym, ◌∙◌, ap, subst, Bool, true, List, [], ◌∷◌, length, min}
+use Rattle.std.proofs.Common.{◌≡◌, ℕ, ◌+◌, ◌*◌, ◌/◌, ◌<◌, ◌≤◌, ◌==◌, arith, sym, ◌∙◌, ap, subst, Bool, true, List, length, min}
 use Rattle.std.specs.Prelude.{flat_map}
 use Rattle.std.specs.List.{list_any}
 use Rattle.definitions.specs.declared.Dims.{Dims}
@@ -14,10 +14,9 @@ use Rattle.lattice_counts.proofs.Ranks.{in_layer, rank, start, within_layer}
 use Rattle.lattice_laws.specs.Ascending.{Has}
 use Rattle.lattice_laws.proofs.Laws.{ids_count_vertices}
 use Rattle.lattice_laws.proofs.Lists.{any_flat_map}
-use Rattle.lattice_laws.proofs.Members.{has_flat_map}
+use Rattle.lattice_laws.proofs.Members.{has_flat_map, any_of_member}
 use Rattle.lattice_laws.proofs.Sublists.{has_at}
 use Rattle.lattice_laws.proofs.Vertices.{id-vertex_at, vertex_at-id}
-use Rattle.lattice_laws.proofs.Booleans.{or_left, or_right}
 use Rattle.node_laws.specs.Laws.{StandsAbove}
 use Rattle.node_laws.proofs.Layers.{all_start, next_start}
 use Rattle.node_laws.proofs.Reach.{pieces_use_near_layers}
@@ -27,12 +26,6 @@ use Rattle.vertex_numbers.proofs.LayerStarts.{starts_rise}
 use Rattle.mesh_lists.specs.Layers.{HoldLayers, NumbersLayers}
 use Rattle.mesh_lists.specs.Parts.{keys_of_vertex}
 use Rattle.mesh_lists.proofs.Numberings.{same_used}
-
--- what is in a part is in the whole
-any_has : {X : Type 0} (p : X → Bool) (x : X) (xs : List X) → Has x xs → p x ≡ true → list_any p xs ≡ true
-any_has p x [] h e = absurd h
-any_has p x (y ∷ ys) (inl same) e = or_left (p y) (list_any p ys) (ap p same ∙ e)
-any_has p x (y ∷ ys) (inr m) e = or_right (p y) (list_any p ys) (any_has p x ys m e)
 
 module _ (d : Dims) where
   -- an id lies among those of its vertex's layer
@@ -70,7 +63,7 @@ module _ (d : Dims) (ss : List State) (padded : ArePadded d ss) where
       let all = has_flat_map (tets_from d) v tet (layer d v.h) here m in
       pieces_use_near_layers d ss v.h key inside.h_below
       (any_flat_map (list_any (λ k. k == key)) (tet_pieces d ss) (flat_map (tets_from d) (layer d v.h))
-      ∙ any_has (λ t. occurs (tet_pieces d ss t) key) tet (flat_map (tets_from d) (layer d v.h)) all o)
+      ∙ any_of_member (λ t. occurs (tet_pieces d ss t) key) tet (flat_map (tets_from d) (layer d v.h)) all o)
 
   has_layer : (v : Vertex) → InDomain d v → Has v (layer d v.h)
   has_layer v inside = subst (λ w. Has w (layer d v.h)) (in_layer d v inside) (has_at (layer d v.h) (before_in_layer d v) (record { h = 0; y = 0; x = 0 }) (within_layer d v inside))

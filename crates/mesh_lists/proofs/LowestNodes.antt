@@ -6,6 +6,7 @@ use Rattle.std.specs.List.{list_all, list_any, position_from}
 use Rattle.std.proofs.lemmas.List.{length-map}
 use Rattle.std.proofs.lemmas.List.FromFn.{get_or-range_with_len, length-range_with_len}
 use Rattle.std.proofs.lemmas.List.Folds.{list_any_at}
+use Rattle.std.proofs.lemmas.Bool.{and_parts, both_ways, or_left}
 use Rattle.definitions.specs.declared.Dims.{Dims}
 use Rattle.definitions.specs.declared.Vertex.{Vertex}
 use Rattle.definitions.specs.declared.State.{State}
@@ -26,7 +27,6 @@ use Rattle.lattice_laws.specs.FiniteTests.{every_case}
 use Rattle.lattice_laws.proofs.FiniteTests.{each_case}
 use Rattle.lattice_laws.proofs.KeyOrder.{pieces_by_table, tet_ids_rise}
 use Rattle.lattice_laws.proofs.ListedTetrahedra.{lattice_tets_listed}
-use Rattle.lattice_laws.proofs.Booleans.{both_true, not_both, or_left}
 use Rattle.lattice_laws.proofs.Members.{from_map, has_flat_map}
 use Rattle.lattice_laws.proofs.Vertices.{has_vertex}
 use Rattle.stencil_laws.specs.Cases.{case_pieces}
@@ -97,13 +97,11 @@ module _ (tet : List Vertex) (ids : List ℕ) where
       list_any occ (keys_of_vertex (get_or ids 0 0)) ≡ false → map (λ p. map (corner_key tet ids) (oriented tet p)) ps ≡ []
   no_pieces [] e occ h none = refl
   no_pieces (p ∷ ps) e occ h none =
-      let b = begins_in (oriented tet p) (begins_oriented p (both_true (begins_lowest p) _ e).0) in
+      let b = begins_in (oriented tet p) (begins_oriented p (and_parts (begins_lowest p) _ e).0) in
       let o : occ b.0 ≡ true = h b.0 (or_left (list_any (λ k. k == b.0) (map (corner_key tet ids) (oriented tet p))) _ b.1) in
       let r = b.2 in
-      absurd (not_both (list_any occ (keys_of_vertex (get_or ids 0 0)))
-      (list_any_at occ (keys_of_vertex (get_or ids 0 0)) r.0 0 (subst (λ n. r.0 < n) (sym (length-range_with_len (8 * get_or ids 0 0) 8)) r.1)
-      (ap occ (get_or-range_with_len (8 * get_or ids 0 0) 8 r.0 0 r.1 ∙ sym r.2) ∙ o))
-      none)
+      absurd (both_ways (list_any occ (keys_of_vertex (get_or ids 0 0))) none (list_any_at occ (keys_of_vertex (get_or ids 0 0)) r.0 0 (subst (λ n. r.0 < n) (sym (length-range_with_len (8 * get_or ids 0 0) 8)) r.1)
+      (ap occ (get_or-range_with_len (8 * get_or ids 0 0) 8 r.0 0 r.1 ∙ sym r.2) ∙ o)))
 
 module _ (d : Dims) (ss : List State) where
   abbrev occ : ℕ → Bool

@@ -1,9 +1,10 @@
 -- Where the nodes of a vertex stand, and the list of nodes with one more.
-use Rattle.std.proofs.Common.{◌≡◌, ℕ, ◌+◌, ◌-◌, ◌*◌, ◌/◌, ◌%◌, ◌<◌, ◌≤◌, ◌==◌, arith, refl, sym, ◌∙◌, ap, Bool, true, false, List, [], ◌∷◌, ◌++◌, map, length, append_assoc}
+use Rattle.std.proofs.Common.{◌≡◌, ℕ, ◌+◌, ◌-◌, ◌*◌, ◌/◌, ◌%◌, ◌<◌, ◌≤◌, ◌==◌, arith, refl, sym, ◌∙◌, ap, Bool, true, false, List, [], ◌∷◌, ◌++◌, map, length, append_assoc, inl, inr, eq-zero-or-pos}
 use Rattle.std.specs.Prelude.{if◌then◌else◌, filter}
 use Rattle.std.specs.List.{range_with_len}
 use Rattle.std.proofs.lemmas.Bool.Decides.{nat_tests}
 use Rattle.std.proofs.lemmas.List.{map-append}
+use Rattle.bcc_lattice.specs.Directions.{IsDirection}
 use Rattle.definitions.specs.declared.Dims.{Dims}
 use Rattle.definitions.specs.declared.Vertex.{Vertex}
 use Rattle.definitions.specs.declared.State.{State}
@@ -37,6 +38,10 @@ edge_place f ss v n dir e low lt =
 
 pub vertex_place : (f : Field) (ss : List State) (v : Vertex) (n dir : ℕ) → vertex_at f.dims n ≡ v → dir ≡ 0 → node_place f ss (8 * n + dir) ≡ state_place v (state_at ss n)
 vertex_place f ss v n dir e z = ap (λ m. node_place f ss (8 * n + m)) z ∙ node_place_at f ss v n 0 e (omega arith)
+
+-- no direction below 8 but 0
+pub only_zero : (n : ℕ) → n < 8 → (IsDirection n → ⊥) → n ≡ 0
+only_zero n lt never = elim (eq-zero-or-pos n) [ inl e ↦ e | inr low ↦ absurd (never (record { low = omega arith; high = omega arith })) ]
 
 map_one : {X : Type 0} (f : ℕ → X) (b : Bool) (k : ℕ) → map f (filter (λ _. b) (k ∷ [])) ≡ (if b then f k ∷ [] else [])
 map_one f true k = refl

@@ -1,7 +1,8 @@
 -- What a numbering says of the nodes of a vertex.
-use Rattle.std.proofs.Common.{◌≡◌, ℕ, ◌+◌, ◌*◌, ◌/◌, ◌<◌, ◌≤◌, zero, suc, arith, refl, sym, ◌∙◌, subst, Bool, true, false, ◌||◌, cond, List, [], ◌∷◌, length}
+use Rattle.std.proofs.Common.{◌≡◌, ℕ, ◌+◌, ◌*◌, ◌/◌, ◌<◌, ◌≤◌, arith, refl, sym, ◌∙◌, subst, Bool, true, false, ◌||◌, cond, List, [], ◌∷◌, length}
 use Rattle.std.specs.Prelude.{filter}
-use Rattle.std.specs.List.{list_any, range_with_len}
+use Rattle.std.specs.List.{list_any}
+use Rattle.list_words.proofs.Ranges.{any_agree}
 use Rattle.definitions.specs.declared.Dims.{Dims}
 use Rattle.definitions.specs.declared.Vertex.{Vertex}
 use Rattle.definitions.specs.declared.State.{State}
@@ -15,13 +16,9 @@ pub vertex_within : (d : Dims) (v : Vertex) (n : ℕ) → InDomain d v → n ≡
 vertex_within d v n inside e = subst (λ m. m < length (vertices d)) (sym e) (vertex_at-id d v inside).0
 
 -- what is used at a vertex
-pub any_same : (p q : ℕ → Bool) (a n : ℕ) → ((k : ℕ) → a ≤ k → k < a + n → p k ≡ q k) → list_any p (range_with_len a n) ≡ list_any q (range_with_len a n)
-any_same p q a zero h = refl
-any_same p q a (suc n) h = λ i. h a (omega arith) (omega arith) i || any_same p q (a + 1) n (λ k low high. h k (omega arith) (omega arith)) i
-
 pub same_used : (d : Dims) (ss : List State) (n : Numbering) (m : ℕ) → TellsUsed d ss n → n.first ≤ m → m < n.first + n.len → list_any (used_in n) (keys_of_vertex m) ≡ list_any (occurs (all_pieces d ss)) (keys_of_vertex m)
 same_used d ss n m used low high =
-    any_same (used_in n) (occurs (all_pieces d ss)) (8 * m) 8 (λ k lo hi. let q : k / 8 ≡ m = omega arith in used k (record { low = omega arith; high = omega arith }))
+    any_agree (used_in n) (occurs (all_pieces d ss)) (8 * m) 8 (λ k lo hi. let q : k / 8 ≡ m = omega arith in used k (record { low = omega arith; high = omega arith }))
 
 -- none of these is left
 none_left : (p : ℕ → Bool) (xs : List ℕ) → list_any p xs ≡ false → filter p xs ≡ []

@@ -7,6 +7,7 @@ use Rattle.std.proofs.lemmas.List.Concat.{length-flat_map}
 use Rattle.std.proofs.lemmas.List.Filters.{length-filter_both}
 use Rattle.std.proofs.lemmas.List.FromFn.{length-range_with_len}
 use Rattle.std.proofs.lemmas.List.Sums.{sum-map}
+use Rattle.std.proofs.lemmas.Bool.{leb-true}
 use Rattle.definitions.specs.declared.Dims.{Dims}
 use Rattle.definitions.specs.declared.Vertex.{Vertex}
 use Rattle.definitions.specs.declared.State.{State}
@@ -22,7 +23,6 @@ use Rattle.lattice_laws.specs.FiniteTests.{every_case}
 use Rattle.lattice_laws.proofs.FiniteTests.{each_case}
 use Rattle.lattice_laws.proofs.KeyOrder.{tet_ids_rise}
 use Rattle.lattice_laws.proofs.ListedTetrahedra.{lattice_tets_listed}
-use Rattle.lattice_laws.proofs.Lists.{at_most_from_test}
 use Rattle.lattice_laws.proofs.TetrahedraFromLowest.{adjacent, all_of, tets_by_triples, triples, vertex_in}
 use Rattle.stencil_laws.specs.Cases.{case_pieces}
 use Rattle.node_laws.proofs.Layers.{all_start, counts_below}
@@ -77,7 +77,7 @@ three_at_most d ss tet t =
     let signs = map (λ n. sign_of_state (state_at ss n)) ids in
     let four : length signs ≡ 4 = length-map ids (λ n. sign_of_state (state_at ss n)) ∙ length-map tet (id d) ∙ t.four in
     subst (λ n. n ≤ 3) (sym (piece_counts_by_signs tet ids signs (tet_ids_rise d tet t)))
-    (at_most_from_test (length (case_pieces signs)) 3 (each_case (λ xs. nat_le (length (case_pieces xs)) 3) all_few signs four))
+    (leb-true (length (case_pieces signs)) 3 (each_case (λ xs. nat_le (length (case_pieces xs)) 3) all_few signs four))
 
 pub few_pieces : (d : Dims) (ss : List State) → length (all_pieces d ss) ≤ 18 * length (vertices d)
 unfolding all_pieces lattice_tets

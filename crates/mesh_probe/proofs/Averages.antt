@@ -3,12 +3,12 @@ use Rattle.std.proofs.Common.{◌≡◌, Bool, true, false, not, ◌&&◌, [], �
 use Rattle.std.proofs.Math.IntN.{ℤ, pos, ◌+ℤ◌, ◌*ℤ◌, neg_ℤ, nat_abs}
 use Rattle.std.specs.Prelude.{int_lt}
 use Rattle.std.proofs.lemmas.Int.{ints}
+use Rattle.std.proofs.lemmas.Bool.{and_parts}
 use lib.Signed.{◌<ℤ◌, ◌≤ℤ◌}
 use borrow.Author.Differences.{at_most_in, below_in}
 use Rattle.exact.specs.Polynomials.{variable, plus, times, negate}
 use Rattle.exact.proofs.Ring.{ring}
 use Rattle.exact.proofs.IntegerOrder.{less_or_at_most, product_positive, size_of_nonnegative, times_monotone}
-use Rattle.lattice_laws.proofs.Booleans.{both_true}
 use Rattle.mesh_probe.specs.Boxes.{are_above, are_below, is_between}
 
 -- four weights, none below 0 and their sum above it, by which a number is the average of four others
@@ -86,9 +86,9 @@ upper k l m n q high w hk hl hm hn =
 -- so an average is neither below all four nor above them
 average_not_below : (k l m n q : ℤ) → IsAverage k l m n q → are_above k l m n q ≡ true → ⊥
 average_not_below k l m n q w e =
-    let h = both_true _ _ e in
-    let g = both_true _ _ h.0 in
-    let f = both_true _ _ g.0 in
+    let h = and_parts _ _ e in
+    let g = and_parts _ _ h.0 in
+    let f = and_parts _ _ g.0 in
     never q (lower k l m n q (q +ℤ pos 1) w (next q k f.0) (next q l f.1) (next q m g.1) (next q n h.1))
   where
     next : (x y : ℤ) → int_lt x y ≡ true → (x +ℤ pos 1) ≤ℤ y
@@ -99,9 +99,9 @@ average_not_below k l m n q w e =
 
 average_not_above : (k l m n q : ℤ) → IsAverage k l m n q → are_below k l m n q ≡ true → ⊥
 average_not_above k l m n q w e =
-    let h = both_true _ _ e in
-    let g = both_true _ _ h.0 in
-    let f = both_true _ _ g.0 in
+    let h = and_parts _ _ e in
+    let g = and_parts _ _ h.0 in
+    let f = and_parts _ _ g.0 in
     never q (upper k l m n q (q +ℤ neg_ℤ (pos 1)) w (before k q f.0) (before l q f.1) (before m q g.1) (before n q h.1))
   where
     before : (x y : ℤ) → int_lt x y ≡ true → x ≤ℤ (y +ℤ neg_ℤ (pos 1))

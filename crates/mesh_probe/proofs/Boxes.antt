@@ -3,13 +3,13 @@ use Rattle.std.specs.Prelude.{ℕ, zero, suc, ◌<◌, ◌≤◌, ◌==◌, Bool
 use Rattle.std.proofs.Common.{◌≡◌, refl, sym, subst, arith, inl, inr, ◌⊎◌}
 use Rattle.std.proofs.Math.IntN.{ℤ, pos, ◌+ℤ◌, neg_ℤ}
 use Rattle.std.proofs.lemmas.Int.{ints}
+use Rattle.std.proofs.lemmas.Bool.{and_from, and_parts}
 use lib.Signed.{◌<ℤ◌, ◌≤ℤ◌}
 use Rattle.exact.proofs.IntegerOrder.{less_or_at_most}
 use Rattle.definitions.specs.declared.Place.{Place}
 use Rattle.definitions.specs.Vectors.{minus, place_at}
 use Rattle.bcc_lattice.specs.Bounds.{IsSmallPlace}
 use Rattle.determinants.specs.Bounds.{AreNear}
-use Rattle.lattice_laws.proofs.Booleans.{and_true, both_true}
 use Rattle.mesh_probe.specs.Boxes.{are_above, are_below, is_between, is_in_box}
 
 -- a number is near another
@@ -36,8 +36,8 @@ between_near k a b c d q na nb nc nd h = go (less_or_at_most (k +ℤ pos 12286) 
     never false false (inr e) t = cc
 
     go : ((k +ℤ pos 12286) <ℤ q) ⊎ (q ≤ℤ (k +ℤ pos 12286)) → (q <ℤ (k +ℤ neg_ℤ (pos 12286))) ⊎ ((k +ℤ neg_ℤ (pos 12286)) ≤ℤ q) → AreClose q k × AreClose k q
-    go (inl far) low = absurd (never (are_above a b c d q) (are_below a b c d q) (inr (and_true _ _ (and_true _ _ (and_true _ _ (below a k q na far) (below b k q nb far)) (below c k q nc far)) (below d k q nd far))) h)
-    go (inr high) (inl far) = absurd (never (are_above a b c d q) (are_below a b c d q) (inl (and_true _ _ (and_true _ _ (and_true _ _ (above a k q na far) (above b k q nb far)) (above c k q nc far)) (above d k q nd far))) h)
+    go (inl far) low = absurd (never (are_above a b c d q) (are_below a b c d q) (inr (and_from _ _ (and_from _ _ (and_from _ _ (below a k q na far) (below b k q nb far)) (below c k q nc far)) (below d k q nd far))) h)
+    go (inr high) (inl far) = absurd (never (are_above a b c d q) (are_below a b c d q) (inl (and_from _ _ (and_from _ _ (and_from _ _ (above a k q na far) (above b k q nb far)) (above c k q nc far)) (above d k q nd far))) h)
     go (inr high) (inr low) = near q k high low
 
 module _ (tet : List Place) (p : Place) (near : AreNear tet) (inside : is_in_box tet p ≡ true) where
@@ -64,10 +64,10 @@ module _ (tet : List Place) (p : Place) (near : AreNear tet) (inside : is_in_box
       d = near 3 i (omega arith) h
 
       on_each : ((On (λ q. q.x) && On (λ q. q.y)) ≡ true) × (On (λ q. q.z) ≡ true)
-      on_each = both_true (On (λ q. q.x) && On (λ q. q.y)) (On (λ q. q.z)) inside
+      on_each = and_parts (On (λ q. q.x) && On (λ q. q.y)) (On (λ q. q.z)) inside
 
       on_two : (On (λ q. q.x) ≡ true) × (On (λ q. q.y) ≡ true)
-      on_two = both_true (On (λ q. q.x)) (On (λ q. q.y)) on_each.0
+      on_two = and_parts (On (λ q. q.x)) (On (λ q. q.y)) on_each.0
 
       x : AreClose p.x (place_at tet i).x × AreClose (place_at tet i).x p.x
       x = between_near (place_at tet i).x (place_at tet 0).x (place_at tet 1).x (place_at tet 2).x (place_at tet 3).x p.x a.x b.x c.x d.x on_two.0

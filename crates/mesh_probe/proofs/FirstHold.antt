@@ -22,6 +22,7 @@ use Rattle.lattice_laws.proofs.Members.{from_flat_map, place_of}
 use Rattle.lattice_laws.proofs.Laws.{ids_count_vertices}
 use Rattle.lattice_laws.proofs.Lists.{compared}
 use Rattle.lattice_laws.proofs.Sublists.{has_at}
+use Rattle.lattice_laws.proofs.Vertices.{from_vertices}
 use Rattle.mesh_lists.proofs.Pieces.{pieces_by_vertex}
 use Rattle.mesh_probe.specs.declared.hold.Hold.{Hold}
 use Rattle.mesh_probe.specs.Answers.{IsHold, IsOutside, number_of_hold}
@@ -76,9 +77,6 @@ order u v = layers (compared u.h v.h)
     layers (inr (inr h)) = behind (before_by_layer v u h)
 
 -- ---- vertices by their places in the list
-inside : (d : Dims) (u : Vertex) → Has u (vertices d) → InDomain d u
-inside d u m = let p = place_of (vertex 0 0 0) u (vertices d) m in subst (InDomain d) p.2 ((ids_count_vertices d).inside p.0 p.1)
-
 -- a vertex among the first n
 record IsEarly (d : Dims) (u : Vertex) (n : ℕ) : Type 0 where
   domain : InDomain d u
@@ -150,7 +148,7 @@ module _ (f : Field) (s : Shares) (is : IsShares s) (p : Place) where
   is_outside clear n lt holds =
       let lt' : n < length all = subst (λ k. n < k) count_is lt in
       let r = from_flat_map (pieces_from d ss) (get_or all n []) (vertices d) (subst (Has (get_or all n [])) by_vertex (has_at all n [] lt')) in
-      clear r.0.h r.0.y r.0.x (inside d r.0 r.1) (get_or all n []) r.2 (subst (λ ps. Holds ps p) (places_are n lt') holds)
+      clear r.0.h r.0.y r.0.x (from_vertices d r.0 r.1) (get_or all n []) r.2 (subst (λ ps. Holds ps p) (places_are n lt') holds)
 
   module _ (hold : Hold) (r : IsFirstFound f s p hold) where
     abbrev v : Vertex

@@ -1,6 +1,7 @@
 -- The first piece that holds a point, of some pieces and of more.
 use Rattle.std.specs.Prelude.{ℕ, zero, suc, ◌+◌, ◌<◌, ◌≤◌, List, [], ◌∷◌, ◌++◌, length, flat_map}
 use Rattle.std.proofs.Common.{◌≡◌, refl, sym, ap, subst, ◌∙◌, arith, inl, inr, get_or, take, append_assoc}
+use Rattle.std.proofs.lemmas.List.{length-append}
 use Rattle.definitions.specs.declared.Place.{Place}
 use Rattle.definitions.specs.Values.{Field}
 use Rattle.definitions.specs.States.{Shares}
@@ -59,19 +60,6 @@ take_front qs l zero h = refl
 take_front [] l (suc r) h = absurd (omega arith)
 take_front (x ∷ qs) l (suc r) h = ap (λ k. x ∷ k) (take_front qs l r (omega arith))
 
-length_both : {X : Type 0} (ps qs : List X) → length (ps ++ qs) ≡ length ps + length qs
-length_both [] qs = none (length qs)
-  where
-    none : (r : ℕ) → r ≡ 0 + r
-    none r = omega arith
-length_both (x ∷ ps) qs = ap suc (length_both ps qs) ∙ one (length ps) (length qs)
-  where
-    one : (n r : ℕ) → suc (n + r) ≡ suc n + r
-    one n r = omega arith
-
-pub length_next : {X : Type 0} (ps qs : List X) → length (ps ++ qs) ≡ length ps + length qs
-length_next ps qs = length_both ps qs
-
 module _ (f : Field) (s : Shares) (p : Place) where
   pub none_in_both : (ps qs : List (List ℕ)) → NoneHolds f s p ps → NoneHolds f s p qs → NoneHolds f s p (ps ++ qs)
   none_in_both ps qs h g keys m = elim (from_append keys ps qs m) [ inl k ↦ h keys k | inr k ↦ g keys k ]
@@ -79,7 +67,7 @@ module _ (f : Field) (s : Shares) (p : Place) where
   -- the first of some pieces is the first of all, where none before them holds the point
   pub first_behind : (ps qs rest all : List (List ℕ)) (r : ℕ) (nodes ws : List ℕ) → all ≡ ps ++ (qs ++ rest) → NoneHolds f s p ps → IsFirstOf f s p qs r nodes ws → IsFirstOf f s p all (length ps + r) nodes ws
   first_behind ps qs rest all r nodes ws e none h = subst (λ l. IsFirstOf f s p l (length ps + r) nodes ws) (sym e) (record {
-    within = let k = h.within in let a = length_both ps (qs ++ rest) in let b = length_both qs rest in omega arith;
+    within = let k = h.within in let a = length-append ps (qs ++ rest) in let b = length-append qs rest in omega arith;
     nodes_are = h.nodes_are ∙ sym (get_behind ps (qs ++ rest) r [] ∙ get_front qs rest r [] h.within);
     weights_are = h.weights_are;
     first = subst (NoneHolds f s p) (sym (take_behind ps (qs ++ rest) r ∙ ap (λ l. ps ++ l) (take_front qs rest r (at_most r (length qs) h.within)))) (none_in_both ps (take r qs) none h.first);

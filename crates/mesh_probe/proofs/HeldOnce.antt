@@ -96,17 +96,6 @@ all_of_them (x ∷ xs) ys different within le k m = go (λ w l. all_of_them xs (
     go further (inr h) = inr (further (λ j n. has_other j x ys (within j (inr n)) (different.0 j n)) shorter h)
 
 -- ---- members by tests
-has_by_test : (xs : List ℕ) (k : ℕ) → is_in xs k ≡ true → Has k xs
-has_by_test [] k e = absurd (never e)
-  where
-    never : false ≡ true → ⊥
-    never h = cc
-has_by_test (x ∷ xs) k e = go (λ h. has_by_test xs k h) (x == k) refl e
-  where
-    go : (is_in xs k ≡ true → Has k xs) → (b : Bool) → (x == k) ≡ b → (b || list_any (λ m. m == k) xs) ≡ true → (x ≡ k) ⊎ Has k xs
-    go further true q h = inl (eqb-true x k q)
-    go further false q h = inr (further h)
-
 test_of_has : (xs : List ℕ) (k : ℕ) → Has k xs → is_in xs k ≡ true
 test_of_has [] k m = absurd m
 test_of_has (x ∷ xs) k m = go (λ h. test_of_has xs k h) (x == k) refl m

@@ -3,12 +3,12 @@ use Rattle.std.specs.Prelude.{ℕ, ◌+◌, ◌*◌, ◌<◌, List}
 use Rattle.std.proofs.Common.{◌≡◌, true, subst, arith}
 use Rattle.std.proofs.Math.IntN.{ℤ, pos, ◌+ℤ◌, ◌*ℤ◌, neg_ℤ}
 use Rattle.std.proofs.lemmas.Int.{ints}
+use Rattle.std.proofs.lemmas.Bool.{and_from}
 use lib.Signed.{◌<ℤ◌, ◌≤ℤ◌}
 use borrow.Author.Differences.{at_most_in}
 use Rattle.definitions.specs.declared.Vertex.{Vertex}
 use Rattle.definitions.specs.declared.Place.{Place}
 use Rattle.definitions.specs.Vectors.{det, place_at}
-use Rattle.lattice_laws.proofs.Booleans.{and_true}
 use Rattle.lattice_laws.proofs.Volumes.{det_by_rows}
 use Rattle.triangle_laws.specs.Overlap.{volume_of}
 use Rattle.mesh_probe.specs.Boxes.{is_in_box}
@@ -69,7 +69,7 @@ module _ (tet : List Place) (p : Place) (positive : pos 0 <ℤ det tet) (h : Hol
 
   pub held_in_box : is_in_box tet p ≡ true
   held_in_box =
-      and_true _ _ (and_true _ _ (average_between a.x b.x c.x d.x p.x x_average) (average_between a.y b.y c.y d.y p.y y_average)) (average_between a.z b.z c.z d.z p.z z_average)
+      and_from _ _ (and_from _ _ (average_between a.x b.x c.x d.x p.x x_average) (average_between a.y b.y c.y d.y p.y y_average)) (average_between a.z b.z c.z d.z p.z z_average)
 
   pub held_near : (v : Vertex) → ((i : ℕ) → i < 4 → IsNear v (place_at tet i)) → IsNear v p
   held_near v near =

@@ -4,6 +4,7 @@ use Rattle.std.proofs.Common.{◌≡◌, arith}
 use Rattle.std.proofs.Math.IntN.{ℤ, pos, ◌+ℤ◌, ◌*ℤ◌}
 use Rattle.std.proofs.lemmas.Bool.Decides.{nat_tests}
 use Rattle.std.proofs.lemmas.Int.{ints}
+use Rattle.std.proofs.lemmas.Bool.{and_from}
 use lib.Signed.{◌≤ℤ◌}
 use borrow.Author.Differences.{at_most_in}
 use Rattle.definitions.specs.declared.Dims.{Dims}
@@ -12,7 +13,6 @@ use Rattle.definitions.specs.declared.Place.{Place}
 use Rattle.definitions.specs.Lattice.{are_neighbours, before, vertex}
 use Rattle.definitions.specs.Pieces.{slot}
 use Rattle.definitions.specs.Tetrahedra.{IsLatticeTet}
-use Rattle.lattice_laws.proofs.Booleans.{and_true}
 use Rattle.near_laws.proofs.Spans.{StandsAmong}
 use Rattle.mesh_probe.specs.Near.{Reaches, IsNear}
 
@@ -48,7 +48,7 @@ module _ (d : Dims) (tet : List Vertex) (t : IsLatticeTet d tet) where
   stands (suc j) h =
       let four = t.four in
       let lt : suc j < length tet = omega arith in
-      later_stands (slot tet 0) (slot tet (suc j)) (and_true (before (slot tet 0) (slot tet (suc j))) (are_neighbours (slot tet 0) (slot tet (suc j))) (t.ordered 0 (suc j) (vertex 0 0 0) (omega arith) lt) (t.neighbours 0 (suc j) (vertex 0 0 0) (omega arith) lt))
+      later_stands (slot tet 0) (slot tet (suc j)) (and_from (before (slot tet 0) (slot tet (suc j))) (are_neighbours (slot tet 0) (slot tet (suc j))) (t.ordered 0 (suc j) (vertex 0 0 0) (omega arith) lt) (t.neighbours 0 (suc j) (vertex 0 0 0) (omega arith) lt))
 
   pub near_lowest : (p : Place) → StandsAmong tet p → IsNear (slot tet 0) p
   near_lowest p s = record {

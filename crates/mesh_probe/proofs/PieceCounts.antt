@@ -2,9 +2,11 @@
 use Rattle.std.specs.Prelude.{ℕ, zero, suc, ◌+◌, ◌-◌, ◌*◌, ◌/◌, ◌%◌, ◌^◌, ◌<◌, ◌≤◌, List, [], ◌∷◌, ◌++◌, length, flat_map, sum_by}
 use Rattle.std.specs.List.{range_with_len}
 use Rattle.std.proofs.Common.{◌≡◌, sym, ap, ◌∙◌, arith, get_or, take}
-use Rattle.std.proofs.lemmas.List.{take_all}
+use Rattle.std.proofs.lemmas.List.{take_all, length-append}
 use Rattle.std.proofs.lemmas.List.Concat.{flat_map-append, length-flat_map}
 use Rattle.std.proofs.lemmas.List.FromFn.{take-map-range_with_len}
+use Rattle.list_words.proofs.Ranges.{range_add}
+use Rattle.list_words.proofs.Sums.{sum_by-map}
 use Rattle.definitions.specs.declared.Dims.{Dims}
 use Rattle.definitions.specs.declared.Vertex.{Vertex}
 use Rattle.definitions.specs.declared.State.{State}
@@ -15,24 +17,22 @@ use Rattle.lattice_counts.specs.Counts.{below_layer, even_len, odd_len, row_len}
 use Rattle.lattice_counts.proofs.Ranges.{length-flat_map_range}
 use Rattle.lattice_counts.proofs.Ranks.{all_small, below_grows, rank}
 use Rattle.node_laws.proofs.Pieces.{flat_map_twice}
-use Rattle.node_laws.proofs.Ranks.{range_split}
 use Rattle.mesh_lists.proofs.Pieces.{pieces_by_vertex}
 use Rattle.mesh_lists.proofs.Sizes.{few_pieces}
 use Rattle.vertex_numbers.specs.Counts.{count_of_layer, layer_counts}
-use Rattle.vertex_numbers.proofs.Sums.{sum_by-map}
 use Rattle.mesh_probe.specs.Holding.{pieces_from}
-use Rattle.mesh_probe.proofs.FirstPieces.{length_next, next_part, take_front}
+use Rattle.mesh_probe.proofs.FirstPieces.{next_part, take_front}
 
 pub length_grown : {X Y : Type 0} (P : X → List Y) (xs : List X) (n : ℕ) (e : X) → n < length xs → (a b : ℕ) → a ≡ length (flat_map P (take n xs)) → b ≡ length (P (get_or xs n e)) → a + b ≡ length (flat_map P (take (n + 1) xs))
-length_grown P xs n e lt a b h g = (λ i. h i + g i) ∙ sym (ap length (next_part P xs n e lt) ∙ length_next (flat_map P (take n xs)) (P (get_or xs n e)))
+length_grown P xs n e lt a b h g = (λ i. h i + g i) ∙ sym (ap length (next_part P xs n e lt) ∙ length-append (flat_map P (take n xs)) (P (get_or xs n e)))
 
 part_at_most : {X Y : Type 0} (P : X → List Y) (xs : List X) (n : ℕ) → length (flat_map P (take n xs)) ≤ length (flat_map P xs)
 part_at_most P [] zero = omega arith
 part_at_most P [] (suc n) = omega arith
 part_at_most P (x ∷ xs) zero = omega arith
 part_at_most P (x ∷ xs) (suc n) =
-    let a = length_next (P x) (flat_map P (take n xs)) in
-    let b = length_next (P x) (flat_map P xs) in
+    let a = length-append (P x) (flat_map P (take n xs)) in
+    let b = length-append (P x) (flat_map P xs) in
     let c = part_at_most P xs n in
     omega arith
 
@@ -57,7 +57,7 @@ module _ (d : Dims) where
       let e : layers d ≡ h + (layers d - h) = omega arith in
       let z : 0 + h ≡ h = omega arith in
       let whole : flat_map (layer d) (range_with_len 0 (layers d)) ≡ low ++ high =
-      ap (λ n. flat_map (layer d) (range_with_len 0 n)) e ∙ ap (flat_map (layer d)) (range_split 0 h (layers d - h) ∙ ap (λ k. range_with_len 0 h ++ range_with_len k (layers d - h)) z) ∙ flat_map-append (layer d) (range_with_len 0 h) (range_with_len h (layers d - h))
+      ap (λ n. flat_map (layer d) (range_with_len 0 n)) e ∙ ap (flat_map (layer d)) (range_add 0 h (layers d - h) ∙ ap (λ k. range_with_len 0 h ++ range_with_len k (layers d - h)) z) ∙ flat_map-append (layer d) (range_with_len 0 h) (range_with_len h (layers d - h))
       in
       let len = layers_length h in
       sym (ap (take (below_layer d h)) whole ∙ take_front low high (below_layer d h) (at_most (below_layer d h) (length low) len) ∙ take_all (below_layer d h) low (as_many (below_layer d h) (length low) len))

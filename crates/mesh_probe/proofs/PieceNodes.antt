@@ -1,7 +1,7 @@
 -- The nodes of a piece of a lattice tetrahedron: where they stand, which vertices they have, and that the piece is a tetrahedron of the mesh.
-use Rattle.std.specs.Prelude.{ℕ, ◌/◌, ◌<◌, true, ◌==◌, List, [], ◌∷◌, length, map}
+use Rattle.std.specs.Prelude.{ℕ, ◌/◌, ◌<◌, true, ◌==◌, List, [], length, map}
 use Rattle.std.specs.List.{list_any}
-use Rattle.std.proofs.Common.{◌≡◌, refl, sym, ap, subst, ◌∙◌, inl, inr, get_or}
+use Rattle.std.proofs.Common.{◌≡◌, refl, sym, ap, subst, ◌∙◌, get_or}
 use Rattle.std.proofs.Math.IntN.{pos}
 use Rattle.std.proofs.lemmas.Bool.{eq-eqb}
 use Rattle.std.proofs.lemmas.List.{length-map, get_or-map}
@@ -21,14 +21,14 @@ use Rattle.definitions.specs.Soundness.{corner_places, IsPositive}
 use Rattle.determinants.specs.Bounds.{AreNear}
 use Rattle.lattice_laws.specs.Ascending.{Has}
 use Rattle.lattice_laws.proofs.ListedTetrahedra.{lattice_tets_listed}
-use Rattle.lattice_laws.proofs.Members.{any_of_member, from_map, has_flat_map, has_map, place_of}
+use Rattle.lattice_laws.proofs.Members.{any_of_member, from_map, has_flat_map, has_map, place_of, map_same}
 use Rattle.lattice_laws.proofs.Sublists.{has_at}
 use Rattle.node_laws.proofs.NodesOfATetrahedron.{id_slot, node_slot}
 use Rattle.node_laws.proofs.Pieces.{lattice_tet_uses_nodes}
 use Rattle.stencil_laws.specs.Cases.{case_pieces}
 use Rattle.parent_laws.specs.Parents.{signs_of}
 use Rattle.parent_laws.proofs.Nodes.{piece_is, place_of_number}
-use Rattle.parent_laws.proofs.OrientedPieces.{length_oriented}
+use Rattle.stencil_laws.proofs.OrientedPieces.{length_oriented}
 use Rattle.parent_laws.proofs.Parents.{pieces_by_keys}
 use Rattle.near_laws.specs.Near.{IsPlaced}
 use Rattle.near_laws.proofs.NearNodes.{nodes_are_near}
@@ -38,10 +38,6 @@ use Rattle.mesh_probe.specs.Holding.{Holds}
 use Rattle.mesh_probe.specs.Near.{IsNear}
 use Rattle.mesh_probe.proofs.HeldPoints.{held_near}
 use Rattle.mesh_probe.proofs.NearNodes.{near_lowest}
-
-pub map_same : {X Y : Type 0} (f g : X → Y) (xs : List X) → ((x : X) → Has x xs → f x ≡ g x) → map f xs ≡ map g xs
-map_same f g [] h = refl
-map_same f g (x ∷ xs) h = λ i. h x (inl refl) i ∷ map_same f g xs (λ y m. h y (inr m)) i
 
 module _ (f : Field) (s : Shares) (is : IsShares s) (tet : List Vertex) (l : IsLatticeTet f.dims tet) where
   abbrev number : ℕ → ℕ

@@ -18,13 +18,13 @@ use Rattle.definitions.specs.Mesh.{node_place, state_at, tet_pieces}
 use Rattle.definitions.specs.Vectors.{det}
 use Rattle.determinants.specs.Bounds.{AreNear}
 use Rattle.lattice_laws.specs.Ascending.{Has}
-use Rattle.lattice_laws.proofs.Members.{from_append, place_of}
+use Rattle.lattice_laws.proofs.Members.{from_append, place_of, map_same}
 use Rattle.lattice_laws.proofs.Sublists.{has_at}
 use Rattle.parent_laws.proofs.Parents.{state_at_id}
 use Rattle.mesh_lists.proofs.Pieces.{HasPieces, has_pieces, of_front}
 use Rattle.mesh_probe.specs.Found.{AreStatesAt, IsFirstOf, NoneHolds}
 use Rattle.mesh_probe.specs.Holding.{Holds, weights}
-use Rattle.mesh_probe.proofs.PieceNodes.{map_same, piece_nodes}
+use Rattle.mesh_probe.proofs.PieceNodes.{piece_nodes}
 
 module _ (f : Field) (s : Shares) (is : IsShares s) (tet : List Vertex) (ids : List ℕ) (told : List State) (signs : List Sign) (len : ℕ) (of : List (List ℕ)) (l : IsLatticeTet f.dims tet)
     (e : ids ≡ map (id f.dims) tet) (t : told ≡ map (state_of f s) tet) where

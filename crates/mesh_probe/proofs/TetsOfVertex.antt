@@ -1,6 +1,8 @@
 -- The lattice tetrahedra whose lowest vertex is v, and the points that their pieces hold.
 use Rattle.std.specs.Prelude.{ℕ, ◌+◌, ◌<◌, ◌&&◌, List, [], ◌∷◌, ◌++◌, length, filter, flat_map}
 use Rattle.std.proofs.Common.{◌≡◌, sym, ap, subst, ◌∙◌, get_or, take}
+use Rattle.std.proofs.lemmas.List.{length-append}
+use Rattle.node_laws.proofs.Reach.{from_tets}
 use Rattle.definitions.specs.declared.Dims.{Dims}
 use Rattle.definitions.specs.declared.Vertex.{Vertex}
 use Rattle.definitions.specs.declared.Place.{Place}
@@ -8,17 +10,15 @@ use Rattle.definitions.specs.Lattice.{InDomain, are_neighbours, before, vertices
 use Rattle.definitions.specs.Lists.{cliques}
 use Rattle.definitions.specs.Values.{Field}
 use Rattle.definitions.specs.States.{Shares, IsShares, states}
-use Rattle.definitions.specs.Tetrahedra.{IsLatticeTet, lattice_tets, tets_from}
+use Rattle.definitions.specs.Tetrahedra.{tets_from}
 use Rattle.definitions.specs.Pieces.{slot}
 use Rattle.definitions.specs.Mesh.{tet_pieces}
 use Rattle.lattice_laws.specs.Ascending.{Has}
-use Rattle.lattice_laws.proofs.ListedTetrahedra.{lattice_tets_listed}
-use Rattle.lattice_laws.proofs.Members.{from_flat_map, from_map, has_flat_map}
-use Rattle.lattice_laws.proofs.Vertices.{has_vertex}
+use Rattle.lattice_laws.proofs.Members.{from_flat_map, from_map}
 use Rattle.mesh_probe.specs.Found.{IsFirstOf, NoneHolds, piece_places}
 use Rattle.mesh_probe.specs.Holding.{Holds, pieces_from}
 use Rattle.mesh_probe.specs.Near.{IsNear}
-use Rattle.mesh_probe.proofs.FirstPieces.{first_behind, length_next, next_part, none_in_both, split}
+use Rattle.mesh_probe.proofs.FirstPieces.{first_behind, next_part, none_in_both, split}
 use Rattle.mesh_probe.proofs.PieceNodes.{holds_near}
 
 lowest_of : (d : Dims) (v : Vertex) (tet : List Vertex) → Has tet (tets_from d v) → slot tet 0 ≡ v
@@ -27,19 +27,12 @@ lowest_of d v tet m =
     let r = from_map (λ c. v ∷ c) tet (cliques are_neighbours 3 (filter (λ w. before v w && are_neighbours v w) (vertices d))) m in
     ap (λ t. slot t 0) (sym r.2)
 
-is_listed : (d : Dims) (v : Vertex) (tet : List Vertex) → InDomain d v → Has tet (tets_from d v) → Has tet (lattice_tets d)
-unfolding lattice_tets
-is_listed d v tet k m = has_flat_map (tets_from d) v tet (vertices d) (has_vertex d v k) m
-
-is_lattice : (d : Dims) (v : Vertex) (tet : List Vertex) → InDomain d v → Has tet (tets_from d v) → IsLatticeTet d tet
-is_lattice d v tet k m = (lattice_tets_listed d tet).0 (is_listed d v tet k m)
-
 module _ (f : Field) (s : Shares) where
   -- a point that a piece of a lattice tetrahedron holds is near the lowest vertex
   pub held_near_lowest : IsShares s → (v : Vertex) → InDomain f.dims v → (keys : List ℕ) (p : Place) → Has keys (pieces_from f.dims (states f s) v) → Holds (piece_places f s keys) p → IsNear v p
   held_near_lowest is v k keys p m h =
       let r = from_flat_map (tet_pieces f.dims (states f s)) keys (tets_from f.dims v) m in
-      subst (λ u. IsNear u p) (lowest_of f.dims v r.0 r.1) (holds_near f s is r.0 (is_lattice f.dims v r.0 k r.1) keys r.2 p h)
+      subst (λ u. IsNear u p) (lowest_of f.dims v r.0 r.1) (holds_near f s is r.0 (from_tets f.dims v r.0 k r.1) keys r.2 p h)
 
   module _ (p : Place) (T : List (List Vertex)) (n : ℕ) (tet : List Vertex) (lt : n < length T) (e : tet ≡ get_or T n []) where
     abbrev part : List (List ℕ)
@@ -52,7 +45,7 @@ module _ (f : Field) (s : Shares) where
     grown = next_part (tet_pieces f.dims (states f s)) T n [] lt ∙ ap (λ t. part ++ tet_pieces f.dims (states f s) t) (sym e)
 
     pub length_more : (before len : ℕ) → before ≡ length part → len ≡ length (tet_pieces f.dims (states f s) tet) → before + len ≡ length more
-    length_more before len h g = (λ i. h i + g i) ∙ sym (ap length grown ∙ length_next part (tet_pieces f.dims (states f s) tet))
+    length_more before len h g = (λ i. h i + g i) ∙ sym (ap length grown ∙ length-append part (tet_pieces f.dims (states f s) tet))
 
     pub none_more : NoneHolds f s p part → NoneHolds f s p (tet_pieces f.dims (states f s) tet) → NoneHolds f s p more
     none_more h g = subst (NoneHolds f s p) (sym grown) (none_in_both f s p part (tet_pieces f.dims (states f s) tet) h g)

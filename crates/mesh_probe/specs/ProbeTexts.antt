@@ -1,5 +1,5 @@
 -- The text that tells which tetrahedron of the mesh holds a point.
-use Rattle.std.specs.Prelude.{ℕ, pos, int_le, Bool, Option, Some, None, List, [], ◌∷◌, map, codes, decimal, slice_index_or}
+use Rattle.std.specs.Prelude.{ℕ, pos, int_le, Bool, Option, Some, None, List, [], ◌∷◌, map, codes, decimal}
 use Rattle.std.specs.Fmt.{signed_decimal}
 use Rattle.std.specs.List.{list_all, position}
 use Rattle.definitions.specs.declared.Place.{Place}

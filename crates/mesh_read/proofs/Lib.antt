@@ -1,3 +1,3 @@
 mod RankAnswers
 mod FileAnswers
-mod Readings
+pub mod Readings

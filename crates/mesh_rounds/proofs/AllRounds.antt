@@ -1,10 +1,11 @@
 -- The texts and the extremes of parts of slabs, and those of all slabs.
-use Rattle.std.proofs.Common.{◌≡◌, ◌⊎◌, ℕ, suc, ◌+◌, ◌-◌, ◌*◌, ◌<◌, ◌≤◌, arith, refl, sym, ◌∙◌, ap, subst, inl, inr, List, [], ◌∷◌, ◌++◌, All, min, length, get_or, take, drop, Option, None}
+use Rattle.std.proofs.Common.{◌≡◌, ◌⊎◌, ℕ, suc, ◌+◌, ◌-◌, ◌*◌, ◌<◌, ◌≤◌, ◌^◌, arith, refl, sym, ◌∙◌, ap, subst, inl, inr, List, [], ◌∷◌, ◌++◌, All, min, length, get_or, take, drop, Option, None}
 use Rattle.std.specs.Prelude.{flat_map}
 use Rattle.std.specs.List.{range_with_len}
 use Rattle.std.specs.Io.KnownBytes.{Appends}
 use Rattle.std.proofs.lemmas.List.{append-nil, take-append-drop, take_all, take_more}
 use Rattle.std.proofs.lemmas.List.Concat.{flat_map-append}
+use Rattle.list_words.proofs.Ranges.{range_add}
 use Rattle.definitions.specs.declared.Extreme.{Extreme}
 use Rattle.definitions.specs.declared.Extremes.{Extremes}
 use Rattle.definitions.specs.Angles.{extremes_of}
@@ -13,7 +14,6 @@ use Rattle.definitions.specs.Layout.{slab_from, slab_to, slabs}
 use Rattle.definitions.specs.Mesh.{layer_pieces}
 use Rattle.dihedral.specs.Fractions.{IsAngle}
 use Rattle.node_ele_write.proofs.Pieces.{part_behind, part_longer}
-use Rattle.node_laws.proofs.Ranks.{range_split}
 use Rattle.mesh_lists.specs.Parts.{mesh_of, numbered}
 use Rattle.slab_texts.specs.Spans.{span_pieces, span_tets}
 use Rattle.slab_texts.specs.Texts.{IsMeasured}
@@ -23,7 +23,7 @@ use Rattle.st_base.specs.Desk.{AppendsPart}
 use Rattle.slab_emit.specs.declared.Lines.{Lines}
 use Rattle.slab_emit.specs.declared.Lines.TheVariants.{Nodes, Tets, Angles}
 use Rattle.slab_emit.specs.declared.Part.{Part}
-use Rattle.mesh_rounds.specs.Rounds.{all_extremes, all_lines, extremes_to, text_of}
+use Rattle.mesh_rounds.specs.Rounds.{IsReached, all_extremes, all_lines, extremes_to, text_of}
 use Rattle.slab_emit.specs.Parts.{AreParts, IsPart}
 use Rattle.slab_emit.specs.Sources.{AreMeasured, SourceValue, slab_angles, slab_extremes, slab_lines}
 
@@ -61,7 +61,7 @@ front_part a b xs ys h = part_longer a b xs ys (length xs, omega arith, subst (�
 pub slabs_then : {X : Type 0} (f : ℕ → List X) (m n : ℕ) → flat_map f (range_with_len 0 m) ++ flat_map f (range_with_len m n) ≡ flat_map f (range_with_len 0 (m + n))
 slabs_then f m n =
     ap (λ k. flat_map f (range_with_len 0 m) ++ flat_map f (range_with_len k n)) (let e : m ≡ 0 + m = omega arith in e)
-    ∙ sym (ap (flat_map f) (range_split 0 m n) ∙ flat_map-append f (range_with_len 0 m) (range_with_len (0 + m) n))
+    ∙ sym (ap (flat_map f) (range_add 0 m n) ∙ flat_map-append f (range_with_len 0 m) (range_with_len (0 + m) n))
 
 no_lines : (s : SourceValue) (js : List ℕ) → flat_map (slab_lines Angles s) js ≡ []
 no_lines s [] = refl
@@ -134,10 +134,14 @@ found_more (Nodes frame first) s m a b r measured h k f = f [] [] (λ i d lt. ab
 found_more (Tets first) s m a b r measured h k f = tets_more s m a b r measured h k f
 found_more Angles s m a b r measured h k f = tets_more s m a b r measured h k f
 
-pub found_none : (lines : Lines) (s : SourceValue) → None ≡ extremes_to lines s 0
+found_none : (lines : Lines) (s : SourceValue) → None ≡ extremes_to lines s 0
 found_none (Nodes frame first) s = refl
 found_none (Tets first) s = extremes_of_none
 found_none Angles s = extremes_of_none
+
+-- before the first round
+pub none_reached : (lines : Lines) (s : SourceValue) → slabs s.field.dims s.slab ≤ 2 ^ 23 → AreMeasured s → IsReached lines s (record { first = 0; found = None })
+none_reached lines s small measured = record { within = omega arith; small = small; measured = measured; found = found_none lines s; fractions = λ x e. (let q = e in cc) }
 
 pub found_all : (lines : Lines) (s : SourceValue) (found : Option Extremes) → 0 < s.slab → found ≡ extremes_to lines s (slabs s.field.dims s.slab) → found ≡ all_extremes lines s
 found_all (Nodes frame first) s found some h = h

@@ -12,6 +12,6 @@ mod folding;
 mod lines;
 mod rounds;
 
-pub use files::{put_head, put_nodes, put_tets};
-pub use lines::{put_lines, put_parts};
+pub use files::{put_first_line, put_nodes, put_tets};
+pub use lines::put_parts;
 pub use rounds::{Reached, extremes, next_round};

@@ -1,9 +1,6 @@
-ghost use Rattle.std.specs.Prelude.{◌≡◌, ◌≢◌, ◌≤◌, ℕ, List, true, Err, OnOk, OnErr, IfOk, IsErrOf};
-ghost use Rattle.std.specs.Io.KnownBytes.{Appends};
-ghost use Rattle.st_base.specs.Causes.{Rose};
-ghost use Rattle.st_base.specs.Desk.{AppendsPart};
-ghost use Rattle.st_base.specs.Frames.{OnlyPort};
+ghost use Rattle.std.specs.Prelude.{◌≡◌, ◌≢◌, ◌≤◌, true, Err, IfOk};
 ghost use Rattle.slab_emit.specs.Sources.{CanPrint};
+ghost use Rattle.mesh_rounds.specs.Puts.{PutsText};
 ghost use Rattle.mesh_rounds.specs.Rounds.{all_extremes, all_lines, text_of};
 
 use crate::rounds::{Reached, next_round};
@@ -17,15 +14,8 @@ use std::thread::Threads;
 /// Writes the texts of parts to an open port, one after another, or some first bytes of them before a fault.
 pub fn put_parts<D: Desk>(desk: &mut D, port: Port, parts: &[Part]) -> Result<(), PutFault>
     requires is_open { (D.ports desk.old port).is_open ≡ true }
-    ensures all { OnOk result (Appends (D.ports desk.old port).text (D.ports desk.new port).text (text_of parts.now)) }
-    ensures part { OnErr result (AppendsPart (D.ports desk.old port).text (D.ports desk.new port).text (text_of parts.now)) }
+    ensures puts { PutsText D.Desk port desk.old desk.new (text_of parts.now) result }
     ensures memory { result ≢ Err PutFault.NoMemory }
-    ensures fault { IsErrOf result PutFault.WriteFault → Rose (D.ports desk.old port).faults (D.ports desk.new port).faults }
-    ensures none { result ≢ Err PutFault.WriteFault → (D.ports desk.new port).faults ≡ (D.ports desk.old port).faults }
-    ensures later { (D.ports desk.old port).faults ≤ (D.ports desk.new port).faults }
-    ensures is_open { (D.ports desk.new port).is_open ≡ true }
-    ensures name { (D.ports desk.new port).name ≡ (D.ports desk.old port).name }
-    ensures apart { OnlyPort D.Desk port desk.old desk.new }
 {
     for n in 0..parts.len() {
         let part = &parts[n];
@@ -37,8 +27,8 @@ pub fn put_parts<D: Desk>(desk: &mut D, port: Port, parts: &[Part]) -> Result<()
     Ok(())
 }
 
-/// Writes the lines of all slabs to an open port, round by round, or some first bytes of them before a fault; and
-/// gives the extremes of the angles where these are the lines of tetrahedra.
+/// Writes the lines of all slabs to an open port, each round before the next is made, or some first bytes of them before
+/// a fault; and gives the extremes of the angles where these are the lines of tetrahedra.
 pub fn put_lines<D: Desk, G: Gate + Sync, R: Threads + Sync>(
     rt: &R,
     alloc: Global,
@@ -53,15 +43,8 @@ pub fn put_lines<D: Desk, G: Gate + Sync, R: Threads + Sync>(
     requires low { 1 ≤ workers }
     requires high { workers ≤ 64 }
     requires printable { CanPrint lines source.now }
-    ensures all { OnOk result (Appends (D.ports desk.old port).text (D.ports desk.new port).text (all_lines lines source.now)) }
-    ensures part { OnErr result (AppendsPart (D.ports desk.old port).text (D.ports desk.new port).text (all_lines lines source.now)) }
+    ensures puts { PutsText D.Desk port desk.old desk.new (all_lines lines source.now) result }
     ensures found { IfOk result (λ found. found ≡ all_extremes lines source.now) }
-    ensures fault { IsErrOf result PutFault.WriteFault → Rose (D.ports desk.old port).faults (D.ports desk.new port).faults }
-    ensures none { result ≢ Err PutFault.WriteFault → (D.ports desk.new port).faults ≡ (D.ports desk.old port).faults }
-    ensures later { (D.ports desk.old port).faults ≤ (D.ports desk.new port).faults }
-    ensures is_open { (D.ports desk.new port).is_open ≡ true }
-    ensures name { (D.ports desk.new port).name ≡ (D.ports desk.old port).name }
-    ensures apart { OnlyPort D.Desk port desk.old desk.new }
 {
     let slabs = source.slabs();
     let mut crew = Crew::new(alloc, workers);
@@ -70,16 +53,7 @@ pub fn put_lines<D: Desk, G: Gate + Sync, R: Threads + Sync>(
         found: None,
     };
     while reached.first < slabs {
-        let Ok(parts) = next_round(
-            rt,
-            alloc,
-            source,
-            lines,
-            slabs,
-            &mut crew,
-            gate,
-            &mut reached,
-        ) else {
+        let Ok(parts) = next_round(rt, alloc, source, lines, &mut crew, gate, &mut reached) else {
             return Err(PutFault::NoMemory);
         };
         put_parts(desk, port, &parts)?;

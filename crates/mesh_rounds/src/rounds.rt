@@ -1,8 +1,7 @@
-ghost use Rattle.std.specs.Prelude.{◌≡◌, ◌+◌, ◌<◌, ◌≤◌, ◌^◌, IfOk, length};
-ghost use Rattle.definitions.specs.Layout.{slabs as slabs_of};
-ghost use Rattle.slab_emit.specs.Parts.{AreParts};
-ghost use Rattle.slab_emit.specs.Sources.{AreMeasured, CanPrint};
-ghost use Rattle.mesh_rounds.specs.Rounds.{IsReached, all_extremes};
+ghost use Rattle.std.specs.Prelude.{◌≡◌, ◌<◌, ◌≤◌, IfOk};
+ghost use Rattle.definitions.specs.Layout.{slabs};
+ghost use Rattle.slab_emit.specs.Sources.{CanPrint};
+ghost use Rattle.mesh_rounds.specs.Rounds.{IsReached, IsRound, all_extremes};
 
 use crate::folding::fold_parts;
 use dihedral::Extremes;
@@ -18,28 +17,21 @@ pub struct Reached {
     pub found: Option<Extremes>,
 }
 
-/// The parts of the next round of so many slabs. Their extremes are folded into those that were found.
+/// The parts of the next round. Their extremes are folded into those that were found.
 pub fn next_round<G: Gate + Sync, R: Threads + Sync>(
     rt: &R,
     alloc: Global,
     source: &Source,
     lines: Lines,
-    slabs: u32,
     crew: &mut Crew,
     gate: &G,
     reached: &mut Reached,
 ) -> Result<Vec<Part>, NoMemory>
-    requires slabs { slabs ≡ slabs_of source.now.field.dims source.now.slab }
-    requires small { slabs ≤ 2 ^ 23 }
-    requires first { reached.old.first < slabs }
+    requires first { reached.old.first < slabs source.now.field.dims source.now.slab }
     requires crew { 1 ≤ crew.old }
-    requires measured { AreMeasured source.now }
     requires printable { CanPrint lines source.now }
     requires reached { IsReached lines source.now reached.old }
-    ensures parts { IfOk result (λ ps. AreParts lines source.now reached.old.first ps.items) }
-    ensures first { IfOk result (λ ps. reached.new.first ≡ reached.old.first + length ps.items) }
-    ensures some { IfOk result (λ ps. 0 < length ps.items) }
-    ensures reached { IfOk result (λ ps. IsReached lines source.now reached.new) }
+    ensures round { IfOk result (λ ps. IsRound lines source.now reached.old reached.new ps.items) }
     ensures crew { crew.new ≡ crew.old }
 {
     let parts = match emit(rt, alloc, source, lines, crew, gate, reached.first) {
@@ -75,7 +67,6 @@ pub fn extremes<G: Gate + Sync, R: Threads + Sync>(
             alloc,
             source,
             Lines::Angles,
-            slabs,
             &mut crew,
             gate,
             &mut reached,

@@ -1,31 +1,11 @@
 ghost use Rattle.std.specs.Prelude.{IfSome};
 ghost use Rattle.dihedral.specs.Fractions.{IsFraction};
 
-use dihedral::{
-    Cosine, Extreme, Extremes, Place, Remembering, compare, edge_cosine, extremes_of, fold,
-};
+use crate::first::{FIRST, FIRST_EXTREMES};
+use dihedral::{Cosine, Remembering, compare, edge_cosine, extremes_of, fold};
 use std::cmp::Ordering;
 
-// The first tetrahedron of the mesh of one sample, and the numbers of its nodes.
-const FIRST: [Place; 4] = [
-    Place {
-        x: 0,
-        y: 0,
-        z: -4096,
-    },
-    Place {
-        x: -2341,
-        y: -2341,
-        z: -2341,
-    },
-    Place {
-        x: 2341,
-        y: -2341,
-        z: -2341,
-    },
-    Place { x: 0, y: 0, z: 0 },
-];
-
+// The numbers of the nodes of the first tetrahedron.
 const NODES: [u32; 4] = [0, 1, 2, 7];
 
 // The signed squares at its edges 0 to 5.
@@ -123,26 +103,8 @@ fn squares_of_the_first_tetrahedron(rt: HostRuntime) {
 
 #[test]
 fn extremes_of_the_first_tetrahedron(rt: HostRuntime) {
-    let least = Extreme {
-        cosine: Cosine {
-            sign: 1,
-            num: 1,
-            den: 4,
-        },
-        tet: 0,
-        ends: [1, 7],
-    };
-    let greatest = Extreme {
-        cosine: Cosine {
-            sign: 0,
-            num: 0,
-            den: 1,
-        },
-        tet: 0,
-        ends: [0, 7],
-    };
     let found = extremes_of(FIRST, 0, NODES);
-    assert_eq!(rt; found, Extremes { least, greatest });
+    assert_eq!(rt; found, FIRST_EXTREMES);
     assert_eq!(rt; fold(None, None), None);
     assert_eq!(rt; fold(None, Some(found)), Some(found));
     assert_eq!(rt; fold(Some(found), None), Some(found));

@@ -4,6 +4,8 @@
 #[cfg(test)]
 mod angles;
 #[cfg(test)]
+mod first;
+#[cfg(test)]
 mod matrices;
 #[cfg(test)]
 mod meshes;

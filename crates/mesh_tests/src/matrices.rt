@@ -3,28 +3,9 @@ ghost use Rattle.exact.specs.Dominance.{entry};
 ghost use Rattle.lattice_laws.specs.NumberedTetrahedra.{IsNumberedTet};
 ghost use Rattle.moved_matrix.specs.Moved.{is_near_at};
 
-use conform_laws::{Place, State, Tet, contract_step, det, dominant, moved_matrix};
+use crate::first::FIRST;
+use conform_laws::{State, Tet, contract_step, det, dominant, moved_matrix};
 use st_base::Vertex;
-
-// The first tetrahedron of the mesh of one sample.
-const FIRST: [Place; 4] = [
-    Place {
-        x: 0,
-        y: 0,
-        z: -4096,
-    },
-    Place {
-        x: -2341,
-        y: -2341,
-        z: -2341,
-    },
-    Place {
-        x: 2341,
-        y: -2341,
-        z: -2341,
-    },
-    Place { x: 0, y: 0, z: 0 },
-];
 
 // A vertex with its neighbours in directions 1, 4 and 6.
 fn lattice_tet() -> Tet

@@ -1,6 +1,6 @@
-use dihedral::{Cosine, Extreme, Extremes};
+use crate::first::FIRST_EXTREMES;
 use mesh_lists::{Mesh, build_mesh, extremes};
-use small_images::field_of;
+use small_images::{ONE_SAMPLE_TETS, field_of};
 use snap_rule::Shares;
 use st_base::{Dims, Place};
 use std::alloc::Global;
@@ -22,34 +22,6 @@ const PLACES: [[i64; 3]; 15] = [
     [-2341, 2341, 2341],
     [2341, 2341, 2341],
     [0, 0, 4096],
-];
-
-// Its tetrahedra.
-const TETS: [[u32; 4]; 24] = [
-    [0, 1, 2, 7],
-    [0, 1, 7, 3],
-    [0, 2, 4, 7],
-    [0, 3, 7, 4],
-    [1, 2, 7, 5],
-    [1, 3, 6, 7],
-    [1, 5, 7, 10],
-    [1, 6, 10, 7],
-    [2, 4, 7, 8],
-    [2, 5, 11, 7],
-    [2, 7, 11, 8],
-    [3, 4, 9, 7],
-    [3, 6, 7, 12],
-    [3, 7, 9, 12],
-    [4, 7, 8, 13],
-    [4, 7, 13, 9],
-    [5, 7, 10, 11],
-    [6, 7, 12, 10],
-    [7, 8, 13, 11],
-    [7, 9, 12, 13],
-    [7, 10, 11, 14],
-    [7, 10, 14, 12],
-    [7, 11, 13, 14],
-    [7, 12, 14, 13],
 ];
 
 // Some nodes of the mesh of two samples in a row, and their places.
@@ -119,29 +91,11 @@ fn how_large_meshes_are(rt: HostRuntime) {
 #[test]
 fn mesh_of_one_sample(rt: HostRuntime) {
     let mesh = mesh_of_ones(rt.alloc(), 1, 1, 1).expect(&rt, "a mesh");
-    assert_eq!(rt; mesh.tets(), TETS.as_slice());
+    assert_eq!(rt; mesh.tets(), ONE_SAMPLE_TETS.as_slice());
     for (node, [x, y, z]) in PLACES.iter().copied().enumerate() {
         assert_eq!(rt; mesh.places().get(node), Some(&Place { x, y, z }));
     }
-    let least = Extreme {
-        cosine: Cosine {
-            sign: 1,
-            num: 1,
-            den: 4,
-        },
-        tet: 0,
-        ends: [1, 7],
-    };
-    let greatest = Extreme {
-        cosine: Cosine {
-            sign: 0,
-            num: 0,
-            den: 1,
-        },
-        tet: 0,
-        ends: [0, 7],
-    };
-    assert_eq!(rt; extremes(&mesh), Some(Extremes { least, greatest }));
+    assert_eq!(rt; extremes(&mesh), Some(FIRST_EXTREMES));
 }
 
 #[test]

@@ -1,3 +1,5 @@
+pub mod Audited
+pub mod FilesHeld
 pub mod Holding
 pub mod Making
 pub mod Statuses

@@ -1,11 +1,12 @@
 -- Files as names and bytes, and those that a command makes.
-use Rattle.std.specs.Prelude.{ℕ, List, [], ◌∷◌, Option, Some, None, if◌then◌else◌, slice_index_or, map}
+use Rattle.std.specs.Prelude.{ℕ, List, [], ◌∷◌, Option, Some, None, if◌then◌else◌, map}
 use Rattle.std.specs.Str.{bytes_eq}
 use Rattle.definitions.specs.Values.{Field}
 use Rattle.formats.specs.declared.Axis.{Axis}
-use Rattle.formats.specs.declared.Port.TheVariants.{Node, Ele}
-use Rattle.command_line.specs.Grammar.{Command, CountSigns, MakeMesh, MakeDemo}
-use Rattle.stuff.specs.Outputs.{file_name, text_of}
+use Rattle.formats.specs.declared.Port.{Port}
+use Rattle.formats.specs.declared.Port.TheVariants.{Node, Ele, Face, Neigh}
+use Rattle.command_line.specs.Grammar.{Command}
+use Rattle.stuff.specs.Outputs.{file_name, files_of, text_of}
 use Rattle.meshed.specs.declared.answer.File.{File}
 
 -- the bytes of the first file that has this name
@@ -21,17 +22,13 @@ pub record NamedBytes : Type 0 where
 abbrev pub named : File → NamedBytes
 named file = record { name = file.name.items; bytes = file.bytes.items }
 
--- the two files of a mesh
-abbrev pub two_files : List ℕ → List ℕ → List ℕ → List ℕ → List NamedBytes
-two_files node node_bytes ele ele_bytes = record { name = node; bytes = node_bytes } ∷ record { name = ele; bytes = ele_bytes } ∷ []
-
 -- the files that a command makes of the axes and the field of a volume: those of a mesh, or none
 abbrev pub files_made : List (List ℕ) → Command → List Axis → Field → List NamedBytes
-files_made words (CountSigns input level below step) axes f = []
-files_made words (MakeMesh m) axes f = two_files (file_name words (MakeMesh m) Node) (text_of (MakeMesh m) axes f Node) (file_name words (MakeMesh m) Ele) (text_of (MakeMesh m) axes f Ele)
-files_made words (MakeDemo size seed plan) axes f = []
+files_made words c axes f = map (λ p. record { name = file_name words c p; bytes = text_of c axes f p }) (files_of c)
 
--- the files whose names were tried behind that of an input
-abbrev pub files_tried : List (List ℕ) → List ℕ → List ℕ → List NamedBytes
-files_tried (input ∷ node ∷ ele ∷ []) node_bytes ele_bytes = two_files node node_bytes ele ele_bytes
-files_tried names node_bytes ele_bytes = []
+-- the files whose names were tried behind that of an input, with the texts of the ports
+abbrev pub files_tried : List (List ℕ) → (Port → List ℕ) → List NamedBytes
+files_tried (input ∷ node ∷ ele ∷ []) text = record { name = node; bytes = text Node } ∷ record { name = ele; bytes = text Ele } ∷ []
+files_tried (input ∷ node ∷ ele ∷ face ∷ neigh ∷ []) text =
+    record { name = node; bytes = text Node } ∷ record { name = ele; bytes = text Ele } ∷ record { name = face; bytes = text Face } ∷ record { name = neigh; bytes = text Neigh } ∷ []
+files_tried names text = []

@@ -1,6 +1,6 @@
 -- What is taken from a desk in memory.
-use Rattle.std.specs.Prelude.{◌≡◌, [], map, Some}
-use Rattle.formats.specs.declared.Port.TheVariants.{Node, Ele, Report, Trouble}
+use Rattle.std.specs.Prelude.{◌≡◌, [], map}
+use Rattle.formats.specs.declared.Port.TheVariants.{Report, Trouble}
 use Rattle.formats.specs.declared.Status.{Status}
 use Rattle.formats.specs.declared.Status.TheVariants.{Done}
 use Rattle.desk_mem.specs.declared.mem.MemDesk.{MemDesk}
@@ -11,7 +11,7 @@ use Rattle.meshed.specs.Files.{files_tried, named}
 -- its files, its report and what is told of trouble
 pub record HasDone (desk : MemDesk) (answer : Answer) : Type 0 where
   pub status : answer.status ≡ Done
-  pub files : map named answer.files.items ≡ files_tried (mem_state desk).tried (port_part desk Node).text.items (port_part desk Ele).text.items
+  pub files : map named answer.files.items ≡ files_tried (mem_state desk).tried (λ p. (port_part desk p).text.items)
   pub report : answer.report.items ≡ (port_part desk Report).text.items
   pub trouble : answer.trouble.items ≡ (port_part desk Trouble).text.items
 

@@ -1,11 +1,14 @@
-ghost use Rattle.std.specs.Prelude.{◌≡◌, ◌≢◌, ◌⊎◌, ℕ, List, [], Some};
+ghost use Rattle.std.specs.Prelude.{◌≡◌, ◌≢◌, ◌⊎◌, ℕ, List, [], false, Some};
 ghost use Rattle.definitions.specs.Values.{Field};
 ghost use Rattle.formats.specs.Faults.{trouble_text};
-ghost use Rattle.command_line.specs.Grammar.{Command, MakeDemo, Reads, IsBadPlace};
+ghost use Rattle.command_line.specs.Grammar.{Command, Meshing, meshing_of, AuditFiles, MakeDemo, Reads, IsBadPlace};
 ghost use Rattle.command_line.specs.declared.Plan.{Plan};
-ghost use Rattle.stuff.specs.Inputs.{outcome_of, settings_of, told_input};
+ghost use Rattle.file_audit.specs.Status.{audit_status, AreRead};
+ghost use Rattle.mesh_files.specs.Files.{Nodes};
+ghost use Rattle.stuff.specs.Inputs.{told_input};
+ghost use Rattle.stuff.specs.Outputs.{nodes_told, status_of_input, tets_told};
 ghost use Rattle.stuff.specs.Traces.{IsFieldFor};
-ghost use Rattle.meshed.specs.Answers.{Comes, LacksMemory, Makes};
+ghost use Rattle.meshed.specs.Answers.{AreShort, AuditsAsSound, Comes, Judges, LacksMemory, Makes};
 ghost use Rattle.meshed.specs.Files.{held_in};
 
 use crate::answer::{Answer, File};
@@ -22,11 +25,20 @@ use stuff::stuff;
 pub fn meshed<R: Threads + Sync>(rt: &R, alloc: Global, words: &Words, files: &[File]) -> Answer
     // The status: of words that are no command, of a command and its input, and of a demo.
     ensures bad_words { (place : ℕ) → IsBadPlace words.now place → Comes result.status (Status.BadWords place) }
-    ensures told { (c : Command) (text : List ℕ) → Reads words.now c → told_input (held_in files.now) words.now c ≡ Some text → Comes result.status (outcome_of (settings_of c).world (settings_of c).step text).status }
+    ensures told { (c : Command) (text : List ℕ) → Reads words.now c → told_input (held_in files.now) words.now c ≡ Some text → Comes result.status (status_of_input c text) }
     ensures demo { (size seed : ℕ) (plan : Plan) → Reads words.now (MakeDemo size seed plan) → Comes result.status Status.Done }
 
-    // What is made of the command's field, and that nothing is made where it is not done.
+    // An audit of files that are among these: its status, and what Done shows of them.
+    ensures audit { (input : ℕ) (s : Status) → Reads words.now (AuditFiles input) → audit_status (nodes_told (held_in files.now) words.now input) (tets_told (held_in files.now) words.now input) ≡ Some s → Comes result.status s }
+    ensures judged { result.status ≡ Status.Done → (input : ℕ) → Reads words.now (AuditFiles input) → (nodes : Nodes) (tets : List (List ℕ)) → AreRead (nodes_told (held_in files.now) words.now input) (tets_told (held_in files.now) words.now input) nodes tets → Judges nodes tets result }
+
+    // What is made of the command's field.
     ensures made { result.status ≡ Status.Done → (c : Command) (f : Field) → Reads words.now c → IsFieldFor (held_in files.now) words.now c f → Makes (held_in files.now) words.now c f result }
+
+    // What an audit of these files says, of a mesh in index units: they are sound.
+    ensures audited { result.status ≡ Status.Done → (c : Command) (m : Meshing) (f : Field) → Reads words.now c → meshing_of c ≡ Some m → m.world ≡ false → IsFieldFor (held_in files.now) words.now c f → AreShort result.files.items → AuditsAsSound words.now m result.files.items }
+
+    // Nothing is made where it is not done.
     ensures no_files { result.status ≢ Status.Done → result.files.items ≡ [] }
     ensures no_report { result.status ≢ Status.Done → result.report.items ≡ [] }
 

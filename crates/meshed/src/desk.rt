@@ -1,9 +1,9 @@
-ghost use Rattle.std.specs.Prelude.{◌≡◌, List, ℕ, None, OnOk, IfOk, IfSome, map};
+ghost use Rattle.std.specs.Prelude.{◌≡◌, ◌∷◌, [], List, ℕ, None, OnOk, IfOk, IfSome, map};
 ghost use Rattle.st_base.specs.Desk.{IsStart};
-ghost use Rattle.formats.specs.declared.Port.TheVariants.{Trouble};
-ghost use Rattle.desk_mem.specs.Meanings.{mem_input, mem_ports, mem_tried, mem_held, mem_state};
+ghost use Rattle.formats.specs.declared.Port.TheVariants.{Node, Ele, Face, Neigh, Trouble};
+ghost use Rattle.desk_mem.specs.Meanings.{mem_input, mem_ports, mem_tried, mem_held, mem_state, port_part};
 ghost use Rattle.desk_mem.specs.Parts.{names_of};
-ghost use Rattle.meshed.specs.Files.{held_in, named, files_tried, two_files};
+ghost use Rattle.meshed.specs.Files.{held_in, named, files_tried};
 ghost use Rattle.meshed.specs.Taken.{HasDone, HasRefused, IsTaken};
 
 use crate::answer::{Answer, File};
@@ -45,33 +45,47 @@ fn file_of(alloc: Global, name: &[u8], bytes: &[u8]) -> Result<File, AllocError>
     Ok(File { name, bytes })
 }
 
-// Both files of a mesh.
-fn both_files(
+// The files of nodes and tetrahedra.
+fn mesh_files(
     alloc: Global,
+    desk: &MemDesk,
     node: &[u8],
-    node_bytes: &[u8],
     ele: &[u8],
-    ele_bytes: &[u8],
 ) -> Result<Vec<File>, AllocError>
-    ensures { IfOk result (λ files. map named files.items ≡ two_files node.now node_bytes.now ele.now ele_bytes.now) }
+    ensures { IfOk result (λ files. map named files.items ≡ record { name = node.now; bytes = (port_part desk.now Node).text.items } ∷ record { name = ele.now; bytes = (port_part desk.now Ele).text.items } ∷ []) }
 {
     let mut files = Vec::new(alloc);
-    files.push(file_of(alloc, node, node_bytes)?)?;
-    files.push(file_of(alloc, ele, ele_bytes)?)?;
+    files.push(file_of(alloc, node, desk.text(Port::Node))?)?;
+    files.push(file_of(alloc, ele, desk.text(Port::Ele))?)?;
     Ok(files)
 }
 
-// The files whose names were tried behind that of the input, with the texts of Node and Ele.
-fn files_of(
+// The same, and those of faces and neighbours.
+fn all_mesh_files(
     alloc: Global,
-    names: &[Vec<u8>],
-    node_bytes: &[u8],
-    ele_bytes: &[u8],
+    desk: &MemDesk,
+    node: &[u8],
+    ele: &[u8],
+    face: &[u8],
+    neigh: &[u8],
 ) -> Result<Vec<File>, AllocError>
-    ensures { IfOk result (λ files. map named files.items ≡ files_tried (names_of names.now) node_bytes.now ele_bytes.now) }
+    ensures { IfOk result (λ files. map named files.items ≡ record { name = node.now; bytes = (port_part desk.now Node).text.items } ∷ record { name = ele.now; bytes = (port_part desk.now Ele).text.items } ∷ record { name = face.now; bytes = (port_part desk.now Face).text.items } ∷ record { name = neigh.now; bytes = (port_part desk.now Neigh).text.items } ∷ []) }
 {
-    match names {
-        [_, node, ele] => both_files(alloc, node, node_bytes, ele, ele_bytes),
+    let mut files = Vec::new(alloc);
+    files.push(file_of(alloc, node, desk.text(Port::Node))?)?;
+    files.push(file_of(alloc, ele, desk.text(Port::Ele))?)?;
+    files.push(file_of(alloc, face, desk.text(Port::Face))?)?;
+    files.push(file_of(alloc, neigh, desk.text(Port::Neigh))?)?;
+    Ok(files)
+}
+
+// The files whose names were tried behind that of the input, with the texts of their ports.
+fn files_of(alloc: Global, desk: &MemDesk) -> Result<Vec<File>, AllocError>
+    ensures { IfOk result (λ files. map named files.items ≡ files_tried (mem_state desk.now).tried (λ p. (port_part desk.now p).text.items)) }
+{
+    match desk.names() {
+        [_, node, ele] => mesh_files(alloc, desk, node, ele),
+        [_, node, ele, face, neigh] => all_mesh_files(alloc, desk, node, ele, face, neigh),
         _ => Ok(Vec::new(alloc)),
     }
 }
@@ -80,12 +94,7 @@ fn files_of(
 fn done(alloc: Global, desk: &MemDesk) -> Result<Answer, AllocError>
     ensures { IfOk result (λ answer. HasDone desk.now answer) }
 {
-    let files = files_of(
-        alloc,
-        desk.names(),
-        desk.text(Port::Node),
-        desk.text(Port::Ele),
-    )?;
+    let files = files_of(alloc, desk)?;
     let report = desk.text(Port::Report).to_vec(alloc)?;
     let trouble = desk.text(Port::Trouble).to_vec(alloc)?;
     Ok(Answer {

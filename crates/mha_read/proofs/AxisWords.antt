@@ -2,13 +2,14 @@
 use Rattle.std.proofs.Common.{◌≡◌, ℕ, ◌+◌, List, [], ◌∷◌, length, map, Option, Some, None, Bool, true, false, ◌&&◌, ◌==◌, if◌then◌else◌, ℤ, pos, neg_ℤ, ◌^◌, refl, ap, ◌∙◌, arith}
 use Rattle.std.specs.List.{list_all}
 use Rattle.std.specs.Option.{option_map_or}
+use Rattle.std.proofs.lemmas.Bool.{and_parts}
 use Rattle.formats.specs.declared.Key.TheVariants.{Spacing, Offset}
 use Rattle.formats.specs.Decimals.{is_decimal, is_between, decimal_units}
 use Rattle.formats.specs.Heads.{value_of, words_of, dimensions}
 use Rattle.mha_read.specs.declared.numbers.Numbers.{Numbers}
 use Rattle.mha_read.specs.Axes.{first_between}
 use Rattle.mha_read.specs.Faults.{AreFormed, AreSupported}
-use Rattle.mha_read.proofs.Judged.{both, equal, formed_value, supported_value, three_dims}
+use Rattle.mha_read.proofs.Judged.{equal, formed_value, supported_value, three_dims}
 
 -- how many decimals there are behind some others, where all words are decimals
 abbrev pub decimal_tally : ℕ → List (List ℕ) → Option ℕ
@@ -39,7 +40,7 @@ three_words low high (a ∷ b ∷ c ∷ d ∷ more) all len = absurd (omega arit
 
 count_is : (pairs : List (List ℕ × List ℕ)) (v : List ℕ) → AreFormed true pairs → AreSupported true pairs → (length (words_of v) == dimensions pairs && list_all is_decimal (words_of v)) ≡ true → length (words_of v) ≡ 3
 count_is pairs v formed supported h =
-    equal (length (words_of v)) (dimensions pairs) (both (length (words_of v) == dimensions pairs) (list_all is_decimal (words_of v)) h).0 ∙ three_dims true pairs formed supported
+    equal (length (words_of v)) (dimensions pairs) (and_parts (length (words_of v) == dimensions pairs) (list_all is_decimal (words_of v)) h).0 ∙ three_dims true pairs formed supported
 
 pub spacing_words : (pairs : List (List ℕ × List ℕ)) (v : List ℕ) → AreFormed true pairs → AreSupported true pairs → Some v ≡ value_of pairs Spacing → AreThree (pos 0) (pos (10 ^ 21)) (words_of v)
 spacing_words pairs v formed supported is =

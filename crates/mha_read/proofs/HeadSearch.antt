@@ -1,5 +1,5 @@
 -- The search of a told text for its data line.
-use Rattle.std.proofs.Common.{◌≡◌, ◌⊎◌, inl, inr, ℕ, ◌+◌, ◌-◌, ◌<◌, ◌≤◌, ◌==◌, ◌||◌, suc, zero, List, [], ◌∷◌, ◌++◌, length, take, drop, find, filter, filter_map, Option, Some, None, Bool, true, false, not, ◌&&◌, is_some, nat_lt, nat_le, if◌then◌else◌, refl, ap, sym, ◌∙◌, subst, arith, append_assoc, append-nil}
+use Rattle.std.proofs.Common.{◌≡◌, ◌⊎◌, inl, inr, ℕ, ◌+◌, ◌-◌, ◌<◌, ◌≤◌, ◌==◌, ◌||◌, List, [], ◌∷◌, ◌++◌, length, take, drop, find, filter, filter_map, Option, Some, None, Bool, true, false, not, ◌&&◌, is_some, nat_lt, nat_le, if◌then◌else◌, refl, ap, sym, ◌∙◌, subst, arith, append_assoc, append-nil}
 use Rattle.std.proofs.lemmas.Grind.{common_steps}
 use Rattle.std.proofs.lemmas.List.{length-take}
 use Rattle.std.proofs.lemmas.List.Elements.{filter_map-append}
@@ -7,6 +7,8 @@ use Rattle.std.specs.Option.{option_map_or}
 use Rattle.std.specs.List.{scan, AllByRecursion, cons_option}
 use Rattle.std.specs.declared.result.Result.{Result}
 use Rattle.std.specs.declared.result.Result.TheVariants.{Ok, Err}
+use Rattle.std.proofs.lemmas.Bool.{le-leb, lt-leb, lt-ltb, or_from, or_left, or_right}
+use Rattle.std.proofs.Math.Nat.{eq-or-lt_of_le}
 use Rattle.formats.specs.declared.HeadFault.{HeadFault}
 use Rattle.formats.specs.declared.HeadFault.TheVariants.{BadLine, Missing, BadValue, Unsupported, HeaderTooLong, HeadEnds, ReadFault, NoMemory}
 use Rattle.formats.specs.Counts.{head_limit, line_texts}
@@ -41,25 +43,19 @@ find_behind ends (t ∷ done) rest at pass =
 find_here : (ends : List ℕ → Bool) (text : List ℕ) (rest : List (List ℕ)) (at : ℕ) → ends text ≡ true → find (λ l. ends l.text) (lines_from at (text ∷ rest)) ≡ Some (at_place at text)
 find_here ends text rest at t = rw t refl
 
-is_le : (a b : ℕ) → a ≤ b → nat_le a b ≡ true
-is_le a b h = grind (arith, common_steps)
-
-is_not_le : (a b : ℕ) → b < a → nat_le a b ≡ false
-is_not_le a b h = grind (arith, common_steps)
-
 -- the lines up to a place
 filter_later : (texts : List (List ℕ)) (at place : ℕ) → place < at → filter (λ m. nat_le m.place place) (lines_from at texts) ≡ []
 filter_later [] at place h = refl
 filter_later (t ∷ texts) at place h =
-    let n : nat_le at place ≡ false = is_not_le at place h in
+    let n : nat_le at place ≡ false = lt-leb at place h in
     rw n (filter_later texts (at + length t + 1) place (omega arith))
 
 filter_upto : (done : List (List ℕ)) (line : List ℕ) (more : List (List ℕ)) (at place : ℕ) → place ≡ at + bytes_of done → filter (λ m. nat_le m.place place) (lines_from at (done ++ line ∷ more)) ≡ lines_from at (done ++ line ∷ [])
 filter_upto [] line more at place e =
-    let n : nat_le at place ≡ true = is_le at place (omega arith) in
+    let n : nat_le at place ≡ true = le-leb at place (omega arith) in
     rw n (ap (λ (ls : List Line). at_place at line ∷ ls) (filter_later more (at + length line + 1) place (omega arith)))
 filter_upto (t ∷ done) line more at place e =
-    let n : nat_le at place ≡ true = is_le at place (omega arith) in
+    let n : nat_le at place ≡ true = le-leb at place (omega arith) in
     rw n (ap (λ (ls : List Line). at_place at t ∷ ls) (filter_upto done line more (at + length t + 1) place (e ∙ sym (behind_line at t done))))
 
 map_texts : {X : Type 0} (f : List ℕ → Option X) (texts : List (List ℕ)) (at : ℕ) → filter_map (λ m. f m.text) (lines_from at texts) ≡ filter_map f texts
@@ -116,22 +112,12 @@ pass_more : (done : List (List ℕ)) (line : List ℕ) → AllByRecursion (λ t.
 pass_more [] line pass h = (h, tt)
 pass_more (t ∷ done) line pass h = (pass.0, pass_more done line pass.1 h)
 
-neither : (a b : Bool) → a ≡ false → b ≡ false → (a || b) ≡ false
-neither a b p q = rw (p, q) refl
-
-second : (a b : Bool) → b ≡ true → (a || b) ≡ true
-second true b q = refl
-second false b q = q
-
-first : (a b : Bool) → a ≡ true → (a || b) ≡ true
-first a b p = rw p refl
-
 -- one more line that doesn't end the search
 pub goes_on : (text line : List ℕ) (place next : ℕ) (pairs new : List (List ℕ × List ℕ)) (mid left : Option (List ℕ)) (head : HeadRead text place pairs mid) → LinesRead text next left (head.done ++ line ∷ []) → is_bad (meaning_of line) ≡ false → is_data_line (meaning_of line) ≡ false → new ≡ pairs ++ pairs_in (line ∷ []) → HeadRead text next new left
 goes_on text line place next pairs new mid left head read good other new_is = record {
   done = head.done ++ line ∷ [];
   read = read;
-  pass = pass_more head.done line head.pass (neither (is_bad (meaning_of line)) (is_data_line (meaning_of line)) good other);
+  pass = pass_more head.done line head.pass (or_from (is_bad (meaning_of line)) (is_data_line (meaning_of line)) good other);
   pairs_are = new_is ∙ ap (λ (ps : List (List ℕ × List ℕ)). ps ++ pairs_in (line ∷ [])) head.pairs_are ∙ sym (filter_map-append (λ t. pair_of (meaning_of t)) head.done (line ∷ []));
 }
 
@@ -169,7 +155,7 @@ at_data ls l t = pick_second (is_bad (meaning_of l.text)) _ _ t
 
 pub bad_line : (text line : List ℕ) (place next : ℕ) (pairs : List (List ℕ × List ℕ)) (mid left : Option (List ℕ)) (head : HeadRead text place pairs mid) → LinesRead text next left (head.done ++ line ∷ []) → is_bad (meaning_of line) ≡ true → PairsRead (Err (BadLine place)) text left
 bad_line text line place next pairs mid left head read bad =
-    let found : found_in (lines_of text) ≡ Some (at_place place line) = found_line text line place pairs mid head _ (lines_split text line next left head.done read) (first (is_bad (meaning_of line)) (is_data_line (meaning_of line)) bad) in
+    let found : found_in (lines_of text) ≡ Some (at_place place line) = found_line text line place pairs mid head _ (lines_split text line next left head.done read) (or_left (is_bad (meaning_of line)) (is_data_line (meaning_of line)) bad) in
     let full : Bool = length (take head_limit text) == head_limit in (
       pairs_are text
           ∙ ap (λ (o : Option Line). pairs_found (lines_from 0 (lines_of text)) full o) found
@@ -181,7 +167,7 @@ pub data_line : (text line : List ℕ) (place next : ℕ) (pairs new : List (Lis
 data_line text line place next pairs new mid left head read good is_data new_is =
     let more : List (List ℕ) = line_texts (take (head_limit - next) (drop next text)) in
     let split : lines_of text ≡ head.done ++ line ∷ more = lines_split text line next left head.done read in
-    let found : found_in (lines_of text) ≡ Some (at_place place line) = found_line text line place pairs mid head more split (second (is_bad (meaning_of line)) (is_data_line (meaning_of line)) is_data) in
+    let found : found_in (lines_of text) ≡ Some (at_place place line) = found_line text line place pairs mid head more split (or_right (is_bad (meaning_of line)) (is_data_line (meaning_of line)) is_data) in
     let at : place ≡ 0 + bytes_of head.done = omega (arith, head.read.place_is) in
     let kept : filter (λ m. nat_le m.place place) (lines_from 0 (lines_of text)) ≡ lines_from 0 (head.done ++ line ∷ []) =
     ap (λ (ts : List (List ℕ)). filter (λ m. nat_le m.place place) (lines_from 0 ts)) split ∙ filter_upto head.done line more 0 place at in
@@ -225,31 +211,18 @@ head_ends : (text : List ℕ) (place : ℕ) (pairs : List (List ℕ × List ℕ)
 head_ends text place pairs mid left head none short =
     no_data_line text place pairs mid left HeadEnds head none (ap (λ (b : Bool). if b then HeaderTooLong else HeadEnds) (not_equal (length (take head_limit text)) head_limit short))
 
-pub below_or_at : (a b : ℕ) → a ≤ b → (a < b) ⊎ (a ≡ b)
-below_or_at zero zero h = inr refl
-below_or_at zero (suc b) h = inl (omega arith)
-below_or_at (suc a) zero h = absurd (omega arith)
-below_or_at (suc a) (suc b) h = more (below_or_at a b (omega arith))
-  where
-    more : (a < b) ⊎ (a ≡ b) → (suc a < suc b) ⊎ (suc a ≡ suc b)
-    more (inl lt) = inl (omega arith)
-    more (inr e) = inr (omega arith)
-
 in_last_line : (text : List ℕ) (place n : ℕ) (pairs : List (List ℕ × List ℕ)) (mid : Option (List ℕ)) (head : HeadRead text place pairs mid) → lines_of text ≡ head.done → n ≤ length text → n < head_limit → IsEarly text n
-in_last_line text place n pairs mid head lines within below = by_end (below_or_at n (length text) within)
+in_last_line text place n pairs mid head lines within below = by_end (eq-or-lt_of_le within)
   where
     nothing : found_in (lines_of text) ≡ None
     nothing = none_found text place pairs mid head lines
 
-    is_less : (a b : ℕ) → a < b → nat_lt a b ≡ true
-    is_less a b h = grind (arith, common_steps)
-
     ends_here : length text < head_limit → (not (is_some (found_in (lines_of text))) && nat_lt (length text) head_limit) ≡ true
-    ends_here short = ap (λ (o : Option Line). not (is_some o) && nat_lt (length text) head_limit) nothing ∙ is_less (length text) head_limit short
+    ends_here short = ap (λ (o : Option Line). not (is_some o) && nat_lt (length text) head_limit) nothing ∙ lt-ltb (length text) head_limit short
 
-    by_end : (n < length text) ⊎ (n ≡ length text) → IsEarly text n
-    by_end (inl more) = inl (omega (arith, taken_all text nothing, length-take head_limit text))
-    by_end (inr end) = inr (end, ends_is text ∙ ends_here (omega arith))
+    by_end : (n ≡ length text) ⊎ (n < length text) → IsEarly text n
+    by_end (inr more) = inl (omega (arith, taken_all text nothing, length-take head_limit text))
+    by_end (inl end) = inr (end, ends_is text ∙ ends_here (omega arith))
 
 in_some_line : (text : List ℕ) (place part : ℕ) (pairs : List (List ℕ × List ℕ)) (mid : Option (List ℕ)) (head : HeadRead text place pairs mid) (line : List ℕ) (more : List (List ℕ)) → lines_of text ≡ head.done ++ line ∷ more → part ≤ length line → place + part < length text → place + part < head_limit → IsEarly text (place + part)
 in_some_line text place part pairs mid head line more lines longer within below =

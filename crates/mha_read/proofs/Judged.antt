@@ -1,10 +1,11 @@
 -- Pairs without a fault.
-use Rattle.std.proofs.Common.{◌≡◌, ℕ, ◌<◌, ◌≤◌, List, [], ◌∷◌, length, filter_map, map, Option, Some, None, Bool, true, false, ◌&&◌, ◌==◌, if◌then◌else◌, unwrap_or, refl, ap, sym, ◌∙◌, arith, lit<, lit≤, get_or, zero, suc}
+use Rattle.std.proofs.Common.{◌≡◌, ℕ, ◌<◌, ◌≤◌, List, [], ◌∷◌, length, filter_map, map, Option, Some, None, Bool, true, false, ◌==◌, if◌then◌else◌, unwrap_or, refl, ap, sym, ◌∙◌, arith, lit<, lit≤, get_or, zero, suc}
 use Rattle.std.proofs.lemmas.Grind.{common_steps}
 use Rattle.std.specs.Option.{option_map_or}
 use Rattle.std.specs.Prelude.{⊤}
 use Rattle.std.specs.List.{list_all, cons_option}
 use Rattle.std.specs.Str.Parse.{digits_value}
+use Rattle.std.proofs.lemmas.Bool.{and_parts}
 use Rattle.formats.specs.declared.Key.{Key}
 use Rattle.formats.specs.declared.Key.TheVariants.{ObjectType, NDims, BinaryData, ByteOrder, CompressedData, Channels, DimSize, ElementType, DataFile, Spacing, Offset}
 use Rattle.formats.specs.declared.HeadFault.{HeadFault}
@@ -56,10 +57,6 @@ passes : (b : Bool) (fault : HeadFault) → (if b then None else Some fault) ≡
 passes true fault e = refl
 passes false fault e = cc
 
-pub both : (a b : Bool) → (a && b) ≡ true → (a ≡ true) × (b ≡ true)
-both true b e = (refl, e)
-both false b e = cc
-
 pub formed_value : (world : Bool) (pairs : List (List ℕ × List ℕ)) (key : Key) (v : List ℕ) → IsKey world key → AreFormed world pairs → Some v ≡ value_of pairs key → is_well_formed pairs key v ≡ true
 unfolding form_fault
 formed_value world pairs key v key_is formed is =
@@ -80,7 +77,7 @@ supported_value world pairs key v key_is supported is =
     passes (is_supported key v) (Unsupported key) (ap (λ (o : Option (List ℕ)). option_map_or (λ w. if is_supported key w then None else Some (Unsupported key)) o None) is ∙ none)
 
 pub has_number : (world : Bool) (pairs : List (List ℕ × List ℕ)) (key : Key) (v : List ℕ) → AreFormed world pairs → Some v ≡ value_of pairs key → HasNumber key v
-has_number world pairs NDims v formed is = (both (is_count v) _ (formed_value world pairs NDims v tt formed is)).0
+has_number world pairs NDims v formed is = (and_parts (is_count v) _ (formed_value world pairs NDims v tt formed is)).0
 has_number world pairs Channels v formed is = formed_value world pairs Channels v tt formed is
 has_number world pairs key v formed is = tt
 
@@ -95,7 +92,7 @@ three_dims world pairs formed supported =
 pub sizes_are : (world : Bool) (pairs : List (List ℕ × List ℕ)) (v : List ℕ) → AreFormed world pairs → AreSupported world pairs → Some v ≡ value_of pairs DimSize → first_three (words_of v) ≡ Some (head_of_pairs world pairs).raw
 unfolding head_of_pairs
 sizes_are world pairs v formed supported is =
-    let f = both (length (words_of v) == dimensions pairs) (list_all is_positive_count (words_of v)) (formed_value world pairs DimSize v tt formed is) in
+    let f = and_parts (length (words_of v) == dimensions pairs) (list_all is_positive_count (words_of v)) (formed_value world pairs DimSize v tt formed is) in
     three_sizes (words_of v) f.1 (equal (length (words_of v)) (dimensions pairs) f.0 ∙ three_dims world pairs formed supported)
     ∙ ap (λ (o : Option (List ℕ)). Some (map (digits_value 10) (words_of (unwrap_or o [])))) is
 

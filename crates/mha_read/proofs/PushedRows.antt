@@ -8,20 +8,13 @@ use Rattle.std.proofs.lemmas.Int.{ints, to_z-of_z}
 use Rattle.std.specs.Prelude.{◌≤ℤ◌}
 use Rattle.std.proofs.lemmas.List.Elements.{All-push}
 use Rattle.std.specs.List.{range_with_len, All}
+use Rattle.list_words.proofs.Ranges.{range_add}
 use Rattle.formats.specs.declared.Kind.{Kind}
 use Rattle.formats.specs.declared.Kind.TheVariants.{Uchar, Char, Ushort, Short, Uint, Int}
 use Rattle.formats.specs.Samples.{bytes_per_sample, sample_number, sample_of_bytes}
 use Rattle.formats.specs.Volumes.{kept_size, least_of, greatest_of}
 use Rattle.mha_read.specs.RawRows.{kept_of_row, kept_at_row, kept_of_rows}
-use Rattle.mha_read.proofs.Ranges.{kept_below, range_add}
-
-pub some_bytes : (kind : Kind) → 0 < bytes_per_sample kind
-some_bytes Uchar = omega arith
-some_bytes Char = omega arith
-some_bytes Ushort = omega arith
-some_bytes Short = omega arith
-some_bytes Uint = omega arith
-some_bytes Int = omega arith
+use Rattle.mha_read.proofs.Ranges.{kept_below}
 
 pub number_at : (kind : Kind) (big : Bool) (bytes : List ℕ) (n at : ℕ) → at ≡ n * bytes_per_sample kind → sample_number kind big (take (length bytes - at) (drop at bytes)) ≡ sample_of_bytes kind big bytes n
 number_at kind big bytes n at e =

@@ -1,27 +1,16 @@
 -- Lists made over ranges of numbers.
 use Rattle.std.proofs.Common.{◌≡◌, ℕ, ◌+◌, ◌*◌, ◌/◌, ◌%◌, ◌<◌, ◌≤◌, ◌==◌, zero, suc, List, [], ◌∷◌, ◌++◌, map, flat_map, length, ℤ, Bool, true, false, if◌then◌else◌, refl, ap, sym, ◌∙◌, arith, append-nil, length-append, nat_lt}
-use Rattle.std.proofs.lemmas.Grind.{common_steps, flat_map-append, div_ceil_times}
+use Rattle.std.proofs.lemmas.Grind.{flat_map-append, div_ceil_times}
 use Rattle.std.proofs.Math.Nat.{mul-le-mul_right, mul-suc, suc-mul, mul-zero, zero-mul, mod-eq_of_lt, div-eq_of_lt, add-mul-mod_self_right, add-mul-div_right, mod-lt}
 use Rattle.std.proofs.lemmas.Nat.{div-add-mod'}
 use Rattle.std.proofs.lemmas.Bool.{ltb-true, ltb-false}
 use Rattle.std.specs.List.{range_with_len}
+use Rattle.text_words.proofs.WordParts.{zero_is, some_is}
+use Rattle.list_words.proofs.Ranges.{range_add}
 use Rattle.formats.specs.Volumes.{kept_size}
 
 range_next : (a n : ℕ) → range_with_len a (suc n) ≡ range_with_len a n ++ (a + n) ∷ []
-range_next a zero = let e : a ≡ a + 0 = omega arith in ap (λ (k : ℕ). k ∷ []) e
-range_next a (suc n) =
-    let e : a + 1 + n ≡ a + suc n = omega arith in
-    ap (λ (ks : List ℕ). a ∷ ks) (range_next (a + 1) n ∙ ap (λ (k : ℕ). range_with_len (a + 1) n ++ k ∷ []) e)
-
-pub range_add : (a m n : ℕ) → range_with_len a (m + n) ≡ range_with_len a m ++ range_with_len (a + m) n
-range_add a zero n =
-    let e : 0 + n ≡ n = omega arith in
-    let f : a ≡ a + 0 = omega arith in
-    ap (λ (k : ℕ). range_with_len a k) e ∙ ap (λ (k : ℕ). range_with_len k n) f
-range_add a (suc m) n =
-    let e : suc m + n ≡ suc (m + n) = omega arith in
-    let f : a + 1 + m ≡ a + suc m = omega arith in
-    ap (λ (k : ℕ). range_with_len a k) e ∙ ap (λ (ks : List ℕ). a ∷ ks) (range_add (a + 1) m n ∙ ap (λ (k : ℕ). range_with_len (a + 1) m ++ range_with_len k n) f)
+range_next a n = let e : suc n ≡ n + 1 = omega arith in ap (range_with_len a) e ∙ range_add a n 1
 
 pub flat_map_shift : (f : ℕ → List ℤ) (a b n : ℕ) → flat_map f (range_with_len (a + b) n) ≡ flat_map (λ q. f (a + q)) (range_with_len b n)
 flat_map_shift f a b zero = refl
@@ -110,12 +99,6 @@ kept_same step n positive some =
     let less : n % step < step = mod-lt n positive in
     same_steps step (kept_size step (suc n)) (kept_size step n) (suc n) positive bounds.0 bounds.1 (omega (arith, times, whole, less)) (omega (arith, old.1))
 
-is_zero : (n : ℕ) → (n == 0) ≡ true → n ≡ 0
-is_zero n h = grind (arith, common_steps)
-
-is_some : (n : ℕ) → (n == 0) ≡ false → 0 < n
-is_some n h = grind (arith, common_steps)
-
 -- every step-th of some rows
 pub every_step : (g : ℕ → List ℤ) (step n : ℕ) → 0 < step → flat_map (λ y. if y % step == 0 then g y else []) (range_with_len 0 n) ≡ flat_map (λ j. g (j * step)) (range_with_len 0 (kept_size step n))
 every_step g step zero positive = ap (λ (k : ℕ). flat_map (λ j. g (j * step)) (range_with_len 0 k)) (sym (kept_zero step positive))
@@ -130,7 +113,7 @@ every_step g step (suc n) positive = by_test (n % step == 0) refl (every_step g 
     by_test : (b : Bool) → (n % step == 0) ≡ b → flat_map (λ y. if y % step == 0 then g y else []) (range_with_len 0 n) ≡ flat_map (λ j. g (j * step)) (range_with_len 0 (kept_size step n)) → flat_map (λ y. if y % step == 0 then g y else []) (range_with_len 0 (suc n)) ≡ flat_map (λ j. g (j * step)) (range_with_len 0 (kept_size step (suc n)))
     by_test true t more =
         let kept : ℕ = kept_size step n in
-        let e : n % step ≡ 0 = is_zero (n % step) t in
+        let e : n % step ≡ 0 = zero_is (n % step) t in
         let z : 0 + kept_size step n ≡ kept_size step n = omega arith in
         front
         ∙ (λ i. more i ++ ((if t i then g n else []) ++ []))
@@ -143,7 +126,7 @@ every_step g step (suc n) positive = by_test (n % step == 0) refl (every_step g 
         front
         ∙ (λ i. more i ++ ((if t i then g n else []) ++ []))
         ∙ append-nil (flat_map (λ j. g (j * step)) (range_with_len 0 (kept_size step n)))
-        ∙ ap (λ (k : ℕ). flat_map (λ j. g (j * step)) (range_with_len 0 k)) (sym (kept_same step n positive (is_some (n % step) t)))
+        ∙ ap (λ (k : ℕ). flat_map (λ j. g (j * step)) (range_with_len 0 k)) (sym (kept_same step n positive (some_is (n % step) t)))
 
 -- the row and the plane of a row's number
 pub row_in_plane : (a z y : ℕ) → y < a → (z * a + y) % a ≡ y

@@ -4,9 +4,10 @@ use Rattle.std.proofs.lemmas.Grind.{flat_map-append}
 use Rattle.std.proofs.lemmas.List.FromFn.{length-map-range_with_len}
 use Rattle.std.proofs.Math.Nat.{mul-le-mul_right}
 use Rattle.std.specs.List.{range_with_len}
+use Rattle.list_words.proofs.Ranges.{range_add}
 use Rattle.formats.specs.Volumes.{kept_size}
 use Rattle.mha_read.specs.RawRows.{kept_of_row, kept_at_row, kept_of_rows}
-use Rattle.mha_read.proofs.Ranges.{range_add, flat_map_shift, flat_map_same, map_same, flat_map_none, in_blocks, every_step, row_in_plane, plane_of_row, kept_below, length_flat_map}
+use Rattle.mha_read.proofs.Ranges.{flat_map_shift, flat_map_same, map_same, flat_map_none, in_blocks, every_step, row_in_plane, plane_of_row, kept_below, length_flat_map}
 
 -- the kept samples in the order of the volume
 abbrev pub kept_in_volume : (ℕ → ℤ) → ℕ → ℕ → ℕ → ℕ → List ℤ

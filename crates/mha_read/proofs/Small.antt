@@ -5,6 +5,7 @@ use Rattle.std.proofs.lemmas.Nat.{pow-add}
 use Rattle.std.proofs.Math.Nat.{pow-le-pow_right, one-le-pow, mul-lt-mul_of_pos_right}
 use Rattle.std.specs.Char.{digit_value}
 use Rattle.std.specs.Str.Parse.{digits_value, digits_value_after}
+use Rattle.list_words.proofs.Digits.{digits_grow}
 
 pub small_fits : (v i : ℕ) → v < 10 ^ i → i < 9 → v * 10 + 10 ≤ 2 ^ 32
 small_fits v i h one =
@@ -25,11 +26,6 @@ scaled_fits v k h few =
     let power : 10 ^ 18 ≡ 10 ^ k * 10 ^ (18 - k) = subst (λ (n : ℕ). 10 ^ n ≡ 10 ^ k * 10 ^ (18 - k)) parts (pow-add 10 k (18 - k)) in
     let less : v * 10 ^ (18 - k) < 10 ^ k * 10 ^ (18 - k) = mul-lt-mul_of_pos_right h (one-le-pow (18 - k) 10 (lit< tt)) in
     omega (arith, power, less)
-
--- more digits make no smaller number
-digits_grow : (v : ℕ) (ds : List ℕ) → v ≤ digits_value_after 10 v ds
-digits_grow v [] = omega arith
-digits_grow v (d ∷ ds) = omega (arith, digits_grow (v * 10 + digit_value d) ds)
 
 digit_is : (b : ℕ) → 48 ≤ b → b ≤ 57 → digit_value b ≡ b - 48
 digit_is b low high = grind (arith, common_steps)

@@ -1,10 +1,11 @@
 -- What the bytes behind a head come to.
 use Rattle.std.proofs.Common.{◌≡◌, ◌⊎◌, inl, inr, ℕ, ℤ, ◌*◌, ◌<◌, ◌≤◌, min, List, [], ◌++◌, length, drop, Option, Some, Bool, true, false, nat_lt, if◌then◌else◌, refl, ap, sym, ◌∙◌, subst, arith, length-append}
 use Rattle.std.specs.Prelude.{◌≤ℤ◌, slice_index}
-use Rattle.std.proofs.lemmas.Grind.{common_steps}
 use Rattle.std.specs.List.{All}
 use Rattle.std.specs.Io.KnownBytes.{IsAtEnd}
 use Rattle.std.specs.declared.result.Result.TheVariants.{Ok, Err}
+use Rattle.std.proofs.lemmas.Bool.{lt-ltb, le-ltb}
+use Rattle.std.proofs.Math.Nat.{eq-or-lt_of_le}
 use Rattle.definitions.specs.declared.Dims.{Dims}
 use Rattle.definitions.specs.Lattice.{IsDims, padded_product}
 use Rattle.formats.specs.declared.Head.{Head}
@@ -20,10 +21,6 @@ use Rattle.mha_read.specs.declared.volumes.VolFault.TheVariants.{Truncated, Read
 use Rattle.mha_read.proofs.RowLists.{all_rows, kept_count}
 use Rattle.mha_read.proofs.RowParts.{rows_before}
 use Rattle.mha_read.proofs.LinesTaken.{Rest, rest_of, leaves_first}
-use Rattle.mha_read.proofs.HeadSearch.{below_or_at}
-
-is_not_less : (a b : ℕ) → b ≤ a → nat_lt a b ≡ false
-is_not_less a b h = grind (arith, common_steps)
 
 allowed : (b : Bool) (x y : Dims) (n : ℕ) → Ok x ≡ (if b then Err n else Ok y) → (b ≡ false) × (x ≡ y)
 allowed true x y n e = cc
@@ -90,7 +87,7 @@ told_whole limits head text len step rows sizes samples old new is within sizes_
     ∙ rows_before (grid_in head step) takes.bytes rest.behind rows is takes.len
     ∙ sym takes.numbers in
     let taken : Leaves (drop len text) (wanted_bytes head) new = subst (λ (n : ℕ). Leaves (drop len text) n new) bytes_are (leaves_first (drop len text) takes.bytes new rest) in (
-      pick_third (is_too_large limits head step) (nat_lt (length (drop len text)) (wanted_bytes head)) _ _ _ within (is_not_less _ _ enough)
+      pick_third (is_too_large limits head step) (nat_lt (length (drop len text)) (wanted_bytes head)) _ _ _ within (le-ltb _ _ enough)
           ∙ (λ i. Whole (record { dims = sym sizes_are i; step = step; kind = head.kind; samples = numbers i })),
       taken,
     )
@@ -100,15 +97,12 @@ pick_second true q a b c p_is q_is = cc
 pick_second false true a b c p_is q_is = refl
 pick_second false false a b c p_is q_is = cc
 
-is_less : (a b : ℕ) → a < b → nat_lt a b ≡ true
-is_less a b h = grind (arith, common_steps)
-
 pub told_truncated : (limits : Limits) (head : Head) (text : List ℕ) (len step count got wanted : ℕ) (old new : Option (List ℕ)) → is_too_large limits head step ≡ false → wanted ≡ wanted_bytes head → count ≡ wanted_bytes head → TakesLast old new got count → old ≡ Some (drop len text) → VolumeTold (volume_answer limits text (head_at head len) step) (wanted_bytes head) (Err (Truncated got wanted)) (drop len text) new
 told_truncated limits head text len step count got wanted old new within wanted_is count_is takes left =
     let rest : Rest (drop len text) takes.bytes new = rest_of old new (drop len text) takes.bytes left takes.taken in
     let none : rest.behind ≡ [] = let P : Option (List ℕ) → Type 0 = λ o. IsAtEnd o in subst P rest.new_is takes.last in
     let all : length (drop len text) ≡ got = omega (arith, ap length rest.parts, length-append takes.bytes rest.behind, ap length none, takes.len) in
-    let short : nat_lt (length (drop len text)) (wanted_bytes head) ≡ true = is_less _ _ (omega (arith, all, takes.fewer)) in (
+    let short : nat_lt (length (drop len text)) (wanted_bytes head) ≡ true = lt-ltb _ _ (omega (arith, all, takes.fewer)) in (
       pick_second (is_too_large limits head step) (nat_lt (length (drop len text)) (wanted_bytes head)) _ _ _ within short ∙ (λ i. EndsEarly (all i) (sym wanted_is i)),
       rest.new_is ∙ ap Some none,
     )
@@ -118,11 +112,11 @@ fewer_wanted old new count wanted e takes = subst (λ (n : ℕ). TakesFewer old 
 
 pub told_fault : (answer : VolumeAnswer) (rest : List ℕ) (wanted : ℕ) (old new : Option (List ℕ)) → TakesFewer old new wanted → old ≡ Some rest → VolumeTold answer wanted (Err ReadFault) rest new
 told_fault answer rest wanted old new takes left =
-    (length takes.bytes, leaves, by_end (below_or_at (length takes.bytes) (length rest) leaves.within))
+    (length takes.bytes, leaves, by_end (eq-or-lt_of_le leaves.within))
   where
     leaves : Leaves rest (length takes.bytes) new
     leaves = leaves_first rest takes.bytes new (rest_of old new rest takes.bytes left takes.taken)
 
-    by_end : (length takes.bytes < length rest) ⊎ (length takes.bytes ≡ length rest) → (length takes.bytes < min wanted (length rest)) ⊎ ((length takes.bytes ≡ length rest) × (length takes.bytes < wanted))
-    by_end (inl more) = inl (omega (arith, takes.fewer))
-    by_end (inr e) = inr (e, takes.fewer)
+    by_end : (length takes.bytes ≡ length rest) ⊎ (length takes.bytes < length rest) → (length takes.bytes < min wanted (length rest)) ⊎ ((length takes.bytes ≡ length rest) × (length takes.bytes < wanted))
+    by_end (inl e) = inr (e, takes.fewer)
+    by_end (inr more) = inl (omega (arith, takes.fewer))

@@ -7,6 +7,7 @@ use Rattle.std.proofs.Math.Nat.{mul-le-mul}
 use Rattle.std.specs.List.{AllByRecursion, All, list_all, cons_option}
 use Rattle.std.specs.Str.Parse.{digits_value}
 use Rattle.std.specs.declared.result.Result.TheVariants.{Ok}
+use Rattle.list_words.proofs.Digits.{IsDigit, all_digits}
 use Rattle.definitions.specs.declared.Dims.{Dims}
 use Rattle.definitions.specs.Lattice.{IsDims, dims}
 use Rattle.formats.specs.declared.Kind.{Kind}
@@ -19,7 +20,7 @@ use Rattle.mha_read.specs.Lines.{HasNoNewline}
 use Rattle.mha_read.specs.LinesRead.{bytes_of}
 use Rattle.mha_read.specs.Told.{pairs_in}
 use Rattle.mha_write.specs.Text.{type_name, sizes_text, plain_lines, plain_head}
-use Rattle.mha_write.proofs.Digits.{IsDigit, all_digits, size_is_count, not_newline}
+use Rattle.mha_write.proofs.Digits.{size_is_count, not_newline}
 use Rattle.mha_write.proofs.Sizes.{three_words, sizes_meaning}
 use Rattle.mha_write.proofs.HeadLines.{with_newlines, length_lines, pairs_found_in}
 

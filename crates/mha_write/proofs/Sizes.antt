@@ -7,10 +7,11 @@ use Rattle.std.proofs.lemmas.List.Elements.{All-from_recursion}
 use Rattle.std.proofs.lemmas.List.Splits.{slice_split_none, slice_split_at}
 use Rattle.std.specs.List.{AllByRecursion, All, list_all, list_any, prefix_len, suffix_len, before_first, after_first}
 use Rattle.std.specs.Str.Lines.{strip_carriage_return}
+use Rattle.list_words.proofs.Digits.{IsDigit}
 use Rattle.formats.specs.Counts.{is_blank}
 use Rattle.formats.specs.HeadLines.{Meaning, Nothing, Bad, Pair, meaning_of, pair_or_bad, trim_blanks}
 use Rattle.formats.specs.Heads.{words_of}
-use Rattle.mha_write.proofs.Digits.{IsDigit, not_blank}
+use Rattle.mha_write.proofs.Digits.{not_blank}
 
 -- the words of a value of three words
 no_blank : (ws : List ℕ) → AllByRecursion IsDigit ws → AllByRecursion (λ b. is_blank b ≡ false) ws

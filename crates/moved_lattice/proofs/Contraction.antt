@@ -3,7 +3,7 @@ use Rattle.std.proofs.Common.{◌≡◌, ℕ, ◌+◌, ◌*◌, ◌-◌, ◌<◌
 use Rattle.std.proofs.Math.IntN.{ℤ, pos, ◌+ℤ◌, ◌*ℤ◌, neg_ℤ, nat_abs, *ℤ_comm}
 use Rattle.std.proofs.Math.Nat.{mul-le-mul_left, mul-le-mul_right}
 use Rattle.std.proofs.lemmas.Int.{ints, unsigned_abs-mul}
-use Rattle.std.proofs.lemmas.Bool.{ltb-true}
+use Rattle.std.proofs.lemmas.Bool.{ltb-true, and_parts}
 use lib.Signed.{◌<ℤ◌}
 use borrow.Author.Differences.{up, down, product_is, below_in}
 use Rattle.exact.specs.Polynomials.{Expression, variable, constant, plus, times, negate, is_same}
@@ -16,7 +16,6 @@ use Rattle.definitions.specs.Vectors.{dot}
 use Rattle.exact.specs.Dominance.{Above4}
 use Rattle.moved_lattice.specs.WeightedSums.{sum4, combination, sum4_expression, dot_expression}
 use Rattle.moved_lattice.specs.MovedMatrix.{gain, row, others}
-use Rattle.lattice_laws.proofs.Booleans.{both_true}
 use Rattle.moved_lattice.proofs.PointForms.{first_slot_alone}
 use Rattle.moved_lattice.proofs.EveryKind.{every_slot, every_kind, every_direction, slot_passes, kind_passes, direction_passes}
 
@@ -172,10 +171,10 @@ module _ (κ : Kind) (w : Slot → ℤ) (e : sum4 w ≡ pos 0) where
   -- weights with no sum have sizes of at most twice the greatest coordinate of their weighted sum
   spread : nat_abs (w slot_0) + nat_abs (w slot_1) + nat_abs (w slot_2) + nat_abs (w slot_3) ≤ 2 * norm point
   spread =
-      let h = both_true (every_slot (λ s. is_short (dual κ s))) _ (kind_passes forms_are_short all_short κ) in
+      let h = and_parts (every_slot (λ s. is_short (dual κ s))) _ (kind_passes forms_are_short all_short κ) in
       let one = λ (s : Slot). one_weight s (slot_passes (λ s. is_short (dual κ s)) h.0 s) in
-      let i = both_true (is_short (dual κ slot_1 +ᵥ dual κ slot_2)) _ h.1 in
-      let j = both_true (is_short (dual κ slot_1 +ᵥ dual κ slot_3)) _ i.1 in
+      let i = and_parts (is_short (dual κ slot_1 +ᵥ dual κ slot_2)) _ h.1 in
+      let j = and_parts (is_short (dual κ slot_1 +ᵥ dual κ slot_3)) _ i.1 in
       sizes (w slot_0) (w slot_1) (w slot_2) (w slot_3) (norm point) e (one slot_0) (one slot_1) (one slot_2) (one slot_3) (two_weights slot_1 slot_2 i.0) (two_weights slot_1 slot_3 j.0) (two_weights slot_2 slot_3 j.1)
 
 size_product : (a d : ℤ) → nat_abs d ≤ 2047 → nat_abs (a *ℤ d) ≤ 2047 * nat_abs a

@@ -1,7 +1,7 @@
 -- The vertices of a lattice tetrahedron of each kind stand in the order of their slots.
 use Rattle.std.proofs.Common.{◌≡◌, ℕ, zero, suc, ◌+◌, ◌<◌, Bool, true, not, ◌&&◌, ◌||◌, ltb, refl, sym, ap, arith, inl, inr, ◌⊎◌}
 use Rattle.std.specs.Prelude.{nat_lt}
-use Rattle.std.proofs.lemmas.Bool.{ltb-true, lt-ltb}
+use Rattle.std.proofs.lemmas.Bool.{ltb-true, lt-ltb, and_parts, or_cases}
 use Rattle.std.proofs.Math.IntN.{ℤ, ◌+ℤ◌}
 use Rattle.std.proofs.lemmas.Int.{ints}
 use lib.Signed.{◌<ℤ◌}
@@ -11,7 +11,7 @@ use Rattle.lattice_laws.specs.Kinds.{Kind, Slot, slot_0, slot_1, slot_2, slot_3,
 use Rattle.moved_lattice.specs.WeightedSums.{vertex_of}
 use Rattle.lattice_laws.specs.FiniteTests.{below}
 use Rattle.lattice_laws.proofs.Lists.{compared}
-use Rattle.lattice_laws.proofs.Booleans.{both_true, either_true, implied}
+use Rattle.lattice_laws.proofs.Booleans.{implied}
 use Rattle.lattice_laws.proofs.FiniteTests.{below_at}
 use Rattle.lattice_laws.proofs.SameVectors.{same_integer-true}
 use Rattle.moved_lattice.proofs.EveryKind.{every_kind, kind_passes}
@@ -77,15 +77,15 @@ less_from_test : (a b : ℤ) → is_less a b ≡ true → a <ℤ b
 less_from_test a b h = below_in a b (ltb-true (up a + down b) (up b + down a) h)
 
 before_from_test : (p q : Vector) → comes_before p q ≡ true → ComesBefore p q
-before_from_test p q h = elim (either_true (is_less p.z q.z) _ h) [
+before_from_test p q h = elim (or_cases (is_less p.z q.z) _ h) [
   | inl e ↦ inl (less_from_test p.z q.z e)
   | inr e ↦
-      (let s = both_true (same_integer p.z q.z) _ e in
+      (let s = and_parts (same_integer p.z q.z) _ e in
       inr (
         same_integer-true p.z q.z s.0,
-        elim (either_true (is_less p.y q.y) _ s.1) [
+        elim (or_cases (is_less p.y q.y) _ s.1) [
           | inl f ↦ inl (less_from_test p.y q.y f)
-          | inr f ↦ (let t = both_true (same_integer p.y q.y) _ f in inr (same_integer-true p.y q.y t.0, less_from_test p.x q.x t.1))
+          | inr f ↦ (let t = and_parts (same_integer p.y q.y) _ f in inr (same_integer-true p.y q.y t.0, less_from_test p.x q.x t.1))
         ],
       ))
 ]

@@ -3,6 +3,7 @@ use Rattle.std.proofs.Common.{◌≡◌, ℕ, zero, suc, ◌<◌, ◌≤◌, ◌
 use Rattle.std.specs.Prelude.{slice_index_or}
 use Rattle.std.proofs.Math.IntN.{ℤ, pos, ◌+ℤ◌, neg_ℤ, nat_abs}
 use Rattle.std.proofs.lemmas.Int.{ints}
+use Rattle.determinants.proofs.Entries.{as_word, word_is}
 use lib.Signed.{◌<ℤ◌}
 use Rattle.definitions.specs.declared.Place.{Place}
 use Rattle.definitions.specs.declared.Vertex.{Vertex}
@@ -22,7 +23,7 @@ use Rattle.moved_lattice.specs.WeightedSums.{sum4, combination}
 use Rattle.moved_matrix.specs.Matrix.{AreForms}
 use Rattle.moved_matrix.specs.Moved.{by_slot, displacement_at, is_near_at, moved_at_slot, place_at_slot, state_in}
 use Rattle.moved_matrix.proofs.Steps.{HasKind}
-use Rattle.moved_matrix.proofs.Words.{word_32, word_64, back_32, own_word}
+use Rattle.moved_matrix.proofs.Words.{word_64, own_word}
 
 -- ---- forms are small
 
@@ -68,20 +69,20 @@ displaced_is κ slot_3 d slot_0 = refl
 displaced_is κ slot_3 d j = refl
 
 pub entry_is : (κ : Kind) (s j : Slot) (at : ℕ) (form shift : Vector) (own w : ℤ) → number_of_slot s ≡ at → form ≡ dual κ j → own ≡ cond (at == number_of_slot j) (pos 8192) (pos 0) → w ≡ word_64 own +ℤ dot form shift → unsigned_abs w ≤ 16384
-    → word_32 w ≡ displaced_row κ s shift j
+    → as_word w ≡ displaced_row κ s shift j
 entry_is κ s j at form shift own w e f g h small =
-    back_32 w small
+    word_is w small
     ∙ h
     ∙ (λ i. own_word (at == number_of_slot j) own g i +ℤ dot (f i) shift)
     ∙ (λ i. cond (sym e i == number_of_slot j) (pos 8192) (pos 0) +ℤ dot (dual κ j) shift)
     ∙ sym (displaced_is κ s shift j)
 
 pub four_small : (a b c d : ℤ) → unsigned_abs a ≤ 16384 → unsigned_abs b ≤ 16384 → unsigned_abs c ≤ 16384 → unsigned_abs d ≤ 16384
-    → (j : ℕ) → j < 4 → unsigned_abs (slice_index_or {A = ℤ} (word_32 a ∷ word_32 b ∷ word_32 c ∷ word_32 d ∷ []) j (pos 0)) ≤ 16384
-four_small a b c d ha hb hc hd zero lt = subst (λ z. unsigned_abs z ≤ 16384) (sym (back_32 a ha)) ha
-four_small a b c d ha hb hc hd (suc zero) lt = subst (λ z. unsigned_abs z ≤ 16384) (sym (back_32 b hb)) hb
-four_small a b c d ha hb hc hd (suc (suc zero)) lt = subst (λ z. unsigned_abs z ≤ 16384) (sym (back_32 c hc)) hc
-four_small a b c d ha hb hc hd (suc (suc (suc zero))) lt = subst (λ z. unsigned_abs z ≤ 16384) (sym (back_32 d hd)) hd
+    → (j : ℕ) → j < 4 → unsigned_abs (slice_index_or {A = ℤ} (as_word a ∷ as_word b ∷ as_word c ∷ as_word d ∷ []) j (pos 0)) ≤ 16384
+four_small a b c d ha hb hc hd zero lt = subst (λ z. unsigned_abs z ≤ 16384) (sym (word_is a ha)) ha
+four_small a b c d ha hb hc hd (suc zero) lt = subst (λ z. unsigned_abs z ≤ 16384) (sym (word_is b hb)) hb
+four_small a b c d ha hb hc hd (suc (suc zero)) lt = subst (λ z. unsigned_abs z ≤ 16384) (sym (word_is c hc)) hc
+four_small a b c d ha hb hc hd (suc (suc (suc zero))) lt = subst (λ z. unsigned_abs z ≤ 16384) (sym (word_is d hd)) hd
 four_small a b c d ha hb hc hd (suc (suc (suc (suc j)))) lt = absurd (omega arith)
 
 -- ---- a row

@@ -1,5 +1,5 @@
 -- One step of the contraction, on a lattice tetrahedron with its states.
-use Rattle.std.proofs.Common.{◌≡◌, ℕ, ◌*◌, ◌<◌, ◌≤◌, max, List, [], ◌∷◌, refl, sym, ap, ◌∙◌, arith}
+use Rattle.std.proofs.Common.{◌≡◌, ℕ, ◌*◌, ◌<◌, ◌≤◌, max, List, [], ◌∷◌, refl, sym, ap, ◌∙◌, arith, subst}
 use Rattle.std.proofs.Math.IntN.{ℤ, pos, ◌+ℤ◌, ◌*ℤ◌, neg_ℤ, nat_abs}
 use Rattle.std.proofs.lemmas.Int.{ints, unsigned_abs-mul}
 use Rattle.definitions.specs.declared.Vertex.{Vertex}
@@ -11,7 +11,7 @@ use Rattle.exact.proofs.Ring.{ring}
 use Rattle.lattice_laws.specs.Kinds.{Kind, kind_146, Slot, slot_0, slot_1, slot_2, slot_3, number_of_slot, offset, vector_of, KindOfTet, tet_of_kind}
 use Rattle.lattice_laws.specs.NumberedTetrahedra.{IsNumberedTet}
 use Rattle.lattice_laws.specs.Vectors.{Vector, norm, ◌+ᵥ◌, ◌*ᵥ◌, origin, x_of, y_of, z_of}
-use Rattle.lattice_laws.proofs.SixKinds.{kind_of_tet}
+use Rattle.lattice_laws.proofs.SixKinds.{numbered_kind}
 use Rattle.moved_lattice.specs.WeightedSums.{sum4, combination}
 use Rattle.moved_lattice.proofs.Contraction.{contraction}
 use Rattle.displacement_laws.proofs.Displacements.{displacements_are_small, near_states_are_displaced}
@@ -58,15 +58,7 @@ kind_places t u v w (tet_of_kind κ e f g) = record { kind = κ; stands = stand;
     go slot_3 = one_place t w (offset κ slot_3) g
 
 pub kind_of_numbered : (tet : List Vertex) (ids : List ℕ) → IsNumberedTet tet ids → HasKind tet
-kind_of_numbered (t ∷ u ∷ v ∷ w ∷ []) ids h =
-    kind_places t u v w
-    (kind_of_tet t u v w (h.ordered 0 1 t (omega arith) (omega arith)) (h.ordered 0 2 t (omega arith) (omega arith)) (h.ordered 0 3 t (omega arith) (omega arith)) (h.ordered 1 2 t (omega arith) (omega arith)) (h.ordered 1 3 t (omega arith) (omega arith)) (h.ordered 2 3 t (omega arith) (omega arith))
-    (h.neighbours 0 1 t (omega arith) (omega arith)) (h.neighbours 0 2 t (omega arith) (omega arith)) (h.neighbours 0 3 t (omega arith) (omega arith)) (h.neighbours 1 2 t (omega arith) (omega arith)) (h.neighbours 1 3 t (omega arith) (omega arith)) (h.neighbours 2 3 t (omega arith) (omega arith)))
-kind_of_numbered [] ids h = absurd (let e = h.four in omega arith)
-kind_of_numbered (t ∷ []) ids h = absurd (let e = h.four in omega arith)
-kind_of_numbered (t ∷ u ∷ []) ids h = absurd (let e = h.four in omega arith)
-kind_of_numbered (t ∷ u ∷ v ∷ []) ids h = absurd (let e = h.four in omega arith)
-kind_of_numbered (t ∷ u ∷ v ∷ w ∷ x ∷ more) ids h = absurd (let e = h.four in omega arith)
+kind_of_numbered tet ids h = let k = numbered_kind tet ids h in subst (λ (vs : List Vertex). HasKind vs) (sym k.4) (kind_places k.0 k.1 k.2 k.3 k.5)
 
 -- ---- weights with no sum
 

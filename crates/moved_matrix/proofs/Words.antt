@@ -8,17 +8,11 @@ use Rattle.bcc_lattice.specs.Bounds.{IsSmallPlace}
 use Rattle.exact.proofs.IntegerOrder.{size_of_product}
 use Rattle.lattice_laws.specs.Vectors.{Vector, norm}
 
-abbrev pub word_32 : ℤ → ℤ
-word_32 a = to_z w32 (of_z w32 a)
-
 abbrev pub word_64 : ℤ → ℤ
 word_64 a = to_z w64 (of_z w64 a)
 
 pub fits_32 : (a : ℤ) → unsigned_abs a ≤ 16384 → FitsSigned w32 a
 fits_32 a h = let small : unsigned_abs a < 2 ^ 31 = omega (arith, h) in fits_signed_from_abs w32 a small
-
-pub back_32 : (a : ℤ) → unsigned_abs a ≤ 16384 → word_32 a ≡ a
-back_32 a h = to_z-of_z w32 a (fits_32 a h)
 
 back_64 : (a : ℤ) → unsigned_abs a ≤ 2 ^ 46 → word_64 a ≡ a
 back_64 a h = let small : unsigned_abs a < 2 ^ 63 = omega (arith, h) in to_z-of_z w64 a (fits_signed_from_abs w64 a small)

@@ -1,23 +1,22 @@
 -- The nodes of every tetrahedron of a mesh stand near each other.
-use Rattle.std.proofs.Common.{◌≡◌, ℕ, ◌<◌, ◌==◌, arith, refl, sym, ◌∙◌, ap, subst, inl, inr, Bool, true, false, List, [], ◌∷◌, map, length, get_or, pos}
-use Rattle.std.specs.Prelude.{All, int_lt, if◌then◌else◌}
+use Rattle.std.proofs.Common.{◌≡◌, ℕ, ◌<◌, ◌==◌, arith, refl, sym, ◌∙◌, ap, subst, inl, inr, true, List, [], ◌∷◌, map, length, get_or, pos}
+use Rattle.std.specs.Prelude.{All}
 use Rattle.std.specs.List.{AllByRecursion, list_all}
 use Rattle.std.proofs.lemmas.Bool.{eqb-true}
 use Rattle.std.proofs.lemmas.List.{get_or-map, length-map}
-use Rattle.definitions.specs.declared.Corner.{Corner}
 use Rattle.definitions.specs.declared.Sign.{Sign}
 use Rattle.definitions.specs.declared.Vertex.{Vertex}
 use Rattle.definitions.specs.Facets.{fill}
 use Rattle.definitions.specs.Lattice.{id}
 use Rattle.definitions.specs.Mesh.{all_pieces, mesh, node_keys, node_place, number_of, occurs, state_at, tet_pieces}
-use Rattle.definitions.specs.Pieces.{corner_key, middle, oriented, swap_last_two}
+use Rattle.definitions.specs.Pieces.{corner_key, oriented}
 use Rattle.definitions.specs.Places.{place}
 use Rattle.definitions.specs.Soundness.{corner_places}
 use Rattle.definitions.specs.States.{Shares, IsShares, sign_of_state, states}
 use Rattle.definitions.specs.Stencils.{facets, kept}
 use Rattle.definitions.specs.Tetrahedra.{IsLatticeTet, lattice_tets}
 use Rattle.definitions.specs.Values.{Field}
-use Rattle.definitions.specs.Vectors.{det, place_at}
+use Rattle.definitions.specs.Vectors.{place_at}
 use Rattle.determinants.specs.Bounds.{AreNear}
 use Rattle.lattice_laws.specs.Ascending.{Has}
 use Rattle.lattice_laws.specs.FiniteTests.{every_case}
@@ -32,6 +31,7 @@ use Rattle.node_laws.proofs.Padding.{states_are_padded}
 use Rattle.node_laws.proofs.Pieces.{lattice_tet_uses_nodes, occurs_in}
 use Rattle.node_laws.proofs.Standing.{keys_are_below}
 use Rattle.stencil_laws.specs.Cases.{case_pieces}
+use Rattle.stencil_laws.proofs.OrientedPieces.{length_oriented}
 use Rattle.near_laws.specs.Near.{IsPlaced, NodesAreNear}
 use Rattle.near_laws.proofs.NodeSpans.{node_among}
 use Rattle.near_laws.proofs.Spans.{StandsAmong, among_within}
@@ -42,27 +42,11 @@ all_four : every_case (λ signs. list_all (λ p. length p == 4) (case_pieces sig
 unfolding fill facets kept
 all_four = refl
 
-swapped_four : (p : List Corner) → length (swap_last_two p) ≡ length p
-swapped_four [] = refl
-swapped_four (a ∷ []) = refl
-swapped_four (a ∷ b ∷ []) = refl
-swapped_four (a ∷ b ∷ c ∷ []) = refl
-swapped_four (a ∷ b ∷ c ∷ d ∷ []) = refl
-swapped_four (a ∷ b ∷ c ∷ d ∷ e ∷ more) = refl
-
-oriented_four : (tet : List Vertex) (p : List Corner) → length (oriented tet p) ≡ length p
-unfolding oriented
-oriented_four tet p = go (int_lt (det (map (middle tet) p)) (pos 0))
-  where
-    go : (b : Bool) → length (if b then swap_last_two p else p) ≡ length p
-    go true = swapped_four p
-    go false = refl
-
 piece_four : (tet : List Vertex) (ids : List ℕ) (signs : List Sign) (p : List ℕ) → length signs ≡ 4 → Has p (map (λ p. map (corner_key tet ids) (oriented tet p)) (case_pieces signs)) → length p ≡ 4
 piece_four tet ids signs p len h =
     let r = from_map (λ p. map (corner_key tet ids) (oriented tet p)) p (case_pieces signs) h in
     let four = eqb-true (length r.0) 4 (all_at_member (λ p. length p == 4) (case_pieces signs) r.0 (each_case (λ signs. list_all (λ p. length p == 4) (case_pieces signs)) all_four signs len) r.1) in
-    ap length (sym r.2) ∙ length-map (oriented tet r.0) (corner_key tet ids) ∙ oriented_four tet r.0 ∙ four
+    ap length (sym r.2) ∙ length-map (oriented tet r.0) (corner_key tet ids) ∙ length_oriented tet r.0 ∙ four
 
 -- ---- a tetrahedron of the mesh
 

@@ -1,7 +1,7 @@
 -- The nodes of a lattice tetrahedron's pieces stand among its vertices.
 use Rattle.std.proofs.Common.{◌≡◌, ℕ, ◌+◌, ◌*◌, ◌/◌, ◌%◌, ◌<◌, ◌≤◌, ◌==◌, arith, refl, sym, ◌∙◌, ap, subst, Bool, true, false, List, length, map, Option, Some, None}
 use Rattle.std.specs.Prelude.{if◌then◌else◌, option_and_then, unwrap_or}
-use Rattle.std.proofs.lemmas.Bool.{ltb-true}
+use Rattle.std.proofs.lemmas.Bool.{ltb-true, and_parts}
 use Rattle.std.proofs.lemmas.Bool.Decides.{nat_tests}
 use Rattle.definitions.specs.declared.Corner.{Corner}
 use Rattle.definitions.specs.declared.Corner.TheVariants.{Whole, Cut}
@@ -14,7 +14,6 @@ use Rattle.definitions.specs.Places.{cut_place, state_place}
 use Rattle.definitions.specs.States.{Shares, IsShares, state_of, states}
 use Rattle.definitions.specs.Tetrahedra.{IsLatticeTet}
 use Rattle.definitions.specs.Values.{Field, value}
-use Rattle.lattice_laws.proofs.Booleans.{both_true}
 use Rattle.lattice_laws.proofs.Directions.{direction_known}
 use Rattle.lattice_laws.proofs.EdgeSteps.{direction_of_step, step_to}
 use Rattle.lattice_laws.proofs.Vertices.{vertex_at-id}
@@ -84,7 +83,7 @@ module _ (f : Field) (s : Shares) (small : IsShares s) (tet : List Vertex) (t : 
           no : (n : ℕ) → n ≡ 0 → (n == 0) ≡ false → ⊥
           no n e f = grind (arith, nat_tests)
   among key (Cut a c) h e b q =
-      let r = both_true _ _ h in
+      let r = and_parts _ _ h in
       let hc = ltb-true c 4 r.1 in let lt = ltb-true a c r.0 in
       let len = t.four in
       let dir = direction_known (slot tet a) (slot tet c) (t.neighbours a c (vertex 0 0 0) lt (omega arith)) (t.ordered a c (vertex 0 0 0) lt (omega arith)) in

@@ -4,7 +4,8 @@ use Rattle.std.specs.Prelude.{slice_set}
 use Rattle.std.proofs.Math.Nat.{pow-suc}
 use Rattle.std.proofs.lemmas.Bool.{cases_lt}
 use Rattle.std.proofs.lemmas.Fmt.{decimal_digit, decimal_step, decimal_step_wide, length-decimal-le}
-use Rattle.std.proofs.lemmas.List.{length-replicate, take_at, replicate-append-replicate}
+use Rattle.std.proofs.lemmas.List.{take_at, replicate-append-replicate}
+use Rattle.list_words.proofs.Digits.{padded_length}
 use Rattle.mesh_texts.specs.Coordinates.{padded_decimal}
 
 -- how long a number is at most
@@ -58,16 +59,12 @@ one_before (suc k) n within small =
     let front : decimal (10 ^ suc k + n / 10) ≡ 49 ∷ padded_decimal (suc k) (n / 10) = one_before k (n / 10) (omega arith) (omega arith) in
     rw tens (one_before_more (10 ^ suc k) k n (omega arith) fits front)
 
-pub length_padded : (k n : ℕ) → 0 < k → n < 10 ^ k → n < 2 ^ 64 → length (padded_decimal k n) ≡ k
-length_padded k n some within small =
-    omega (arith, length-append (replicate (k - length (decimal n)) 48) (decimal n), length-replicate {A = ℕ} (k - length (decimal n)) 48, length-decimal-le k n some within small)
-
 -- thirteen decimals of a number of parts of 8192
 pub one_before_decimals : (parts : ℕ) → parts < 8192 → decimal (10000000000000 + parts * 5 ^ 13) ≡ 49 ∷ padded_decimal 13 (parts * 5 ^ 13)
 one_before_decimals parts within = one_before 12 (parts * 5 ^ 13) (omega arith) (omega arith)
 
 pub length_decimals : (parts : ℕ) → parts < 8192 → length (padded_decimal 13 (parts * 5 ^ 13)) ≡ 13
-length_decimals parts within = length_padded 13 (parts * 5 ^ 13) (omega arith) (omega arith) (omega arith)
+length_decimals parts within = padded_length 13 (parts * 5 ^ 13) (omega arith) (omega arith) (omega arith)
 
 -- the fraction: the digits with a point in place of the one in front
 pub fraction_bytes : (start parts : ℕ) (rest new : List ℕ) → parts < 8192 → start + length (decimal (10000000000000 + parts * 5 ^ 13)) ≡ 14 → drop start new ≡ decimal (10000000000000 + parts * 5 ^ 13) ++ rest →

@@ -1,5 +1,5 @@
 -- A line that is made from its end to its front.
-use Rattle.std.proofs.Common.{◌≡◌, ℕ, ◌+◌, ap, codes, List, [], ◌∷◌, ◌++◌, append_assoc, decimal, ℤ, pos, ◌*ℤ◌, ◌∙◌, sym, Bool, Some, None}
+use Rattle.std.proofs.Common.{◌≡◌, ℕ, ◌+◌, ap, codes, List, [], ◌∷◌, ◌++◌, append_assoc, decimal, ℤ, pos, ◌*ℤ◌, ◌∙◌, Bool, Some, None}
 use Rattle.std.specs.Prelude.{slice_index, slice_index_or}
 use Rattle.definitions.specs.declared.Extreme.{Extreme}
 use Rattle.definitions.specs.declared.Place.{Place}

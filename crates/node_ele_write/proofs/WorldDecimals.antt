@@ -2,8 +2,9 @@
 use Rattle.std.proofs.Common.{◌≡◌, ℕ, zero, suc, ◌+◌, ◌*◌, ◌/◌, ◌%◌, ◌^◌, ◌<◌, ◌≤◌, List, [], ◌∷◌, ◌++◌, length, drop, decimal, refl, ap, sym, ◌∙◌, subst, arith, append_assoc, length-append}
 use Rattle.std.proofs.Math.Nat.{pow-suc, mul_assoc}
 use Rattle.std.proofs.lemmas.Fmt.{decimal_digit}
+use Rattle.list_words.proofs.Digits.{padded_length}
 use Rattle.mesh_texts.specs.Coordinates.{padded_decimal}
-use Rattle.node_ele_write.proofs.Decimals.{padded_step, one_before, length_padded}
+use Rattle.node_ele_write.proofs.Decimals.{padded_step, one_before}
 
 -- one digit alone
 one_digit : (y : ℕ) → y < 10 → padded_decimal 1 y ≡ (48 + y) ∷ []
@@ -57,4 +58,4 @@ digits_put (suc k) one n old more less some e below small m l =
 
 pub digits_length : (k one n : ℕ) (old less : List ℕ) → 0 < k → one ≡ 10 ^ k → n < one → one ≤ 10 ^ 18 → less ≡ padded_decimal k n ++ old → length less ≡ length old + k
 digits_length k one n old less some e below small l =
-    omega (arith, ap length l, length-append (padded_decimal k n) old, length_padded k n some (subst (λ (p : ℕ). n < p) e below) (omega arith))
+    omega (arith, ap length l, length-append (padded_decimal k n) old, padded_length k n some (subst (λ (p : ℕ). n < p) e below) (omega arith))

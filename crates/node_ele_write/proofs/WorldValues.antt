@@ -1,19 +1,12 @@
 -- How large a coordinate in a volume's own units is, and that it is exact.
-use Rattle.std.proofs.Common.{◌≡◌, ℕ, List, [], ◌∷◌, slice_index_or, ◌+◌, ◌*◌, ◌^◌, ◌<◌, ◌≤◌, ℤ, pos, arith, ap, ◌∙◌}
+use Rattle.std.proofs.Common.{◌≡◌, ℕ, List, [], ◌∷◌, slice_index_or, ◌^◌, ◌<◌, ℤ, pos, arith, ap, ◌∙◌}
 use Rattle.std.specs.Prelude.{unsigned_abs, ◌+ℤ◌, ◌*ℤ◌, ◌<ℤ◌, neg_ℤ}
-use Rattle.std.proofs.lemmas.Int.{ints, unsigned_abs-mul}
-use Rattle.std.proofs.Math.Nat.{mul-le-mul, mul-le-mul_left}
+use Rattle.std.proofs.lemmas.Int.{ints}
 use Rattle.formats.specs.declared.Axis.{Axis}
 use Rattle.formats.specs.Frames.{AreAxes, IsAxis}
 use Rattle.mesh_texts.specs.Frames.{world_value}
 
 -- a spacing times a number of steps
-pub spaced_size : (s t : ℤ) → pos 0 <ℤ s → s <ℤ pos (10 ^ 21) → unsigned_abs t ≤ 8192 * 9000 → unsigned_abs (s *ℤ t) ≤ 10 ^ 21 * (8192 * 9000)
-spaced_size s t low high near =
-    let small : unsigned_abs s ≤ 10 ^ 21 = omega (arith, ints) in
-    let product : unsigned_abs s * unsigned_abs t ≤ 10 ^ 21 * (8192 * 9000) = mul-le-mul small near in
-    omega (arith, unsigned_abs-mul s t, product)
-
 -- the size of an offset
 pub offset_size : (o : ℤ) → neg_ℤ (pos (10 ^ 24)) <ℤ o → o <ℤ pos (10 ^ 24) → unsigned_abs o < 10 ^ 24
 offset_size o low high = omega (arith, ints)
@@ -30,13 +23,6 @@ value_is axis step p s t o e r s_is t_is o_is e_is r_is =
     r_is ∙ (λ i. o_is i +ℤ part i)
 
 -- a place on an axis of n kept samples is near enough, where one of each `step` is kept and an axis has no more than 8192
-pub near_enough : (step n : ℕ) (p : ℤ) → step ≤ 64 → step * n ≤ 8255 → unsigned_abs p ≤ 8192 * (n + 1) → unsigned_abs (pos step *ℤ p) ≤ 8192 * 9000
-near_enough step n p small kept size =
-    let product = unsigned_abs-mul (pos step) p in
-    let bound = mul-le-mul_left {m = unsigned_abs p} {n = 8192 * (n + 1)} step size in
-    let spread : step * (8192 * (n + 1)) ≡ 8192 * (step * n) + 8192 * step = omega arith in
-    omega (arith, product, bound, spread, kept)
-
 -- the axes of three
 pub first_axis : (axes : List Axis) (other : Axis) → AreAxes axes → IsAxis (slice_index_or axes 0 other)
 first_axis [] other are = elim are [ ]

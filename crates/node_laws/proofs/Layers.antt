@@ -7,6 +7,7 @@ use Rattle.std.proofs.lemmas.Bool.Decides.{nat_tests}
 use Rattle.std.proofs.lemmas.List.Concat.{flat_map-append, length-flat_map}
 use Rattle.std.proofs.lemmas.List.Elements.{filter-append}
 use Rattle.std.proofs.lemmas.List.Sums.{sum-map}
+use Rattle.list_words.proofs.Ranges.{range_add}
 use Rattle.definitions.specs.declared.Dims.{Dims}
 use Rattle.definitions.specs.declared.State.{State}
 use Rattle.definitions.specs.Lattice.{id, layers, vertex, vertices, vertex_at}
@@ -18,7 +19,7 @@ use Rattle.lattice_laws.proofs.Lists.{compared}
 use Rattle.lattice_laws.proofs.Sublists.{has_at}
 use Rattle.lattice_laws.proofs.Vertices.{from_vertices, id-vertex_at}
 use Rattle.node_laws.specs.Laws.{LayersHaveKeys, KeysJoin, CountsBelow}
-use Rattle.node_laws.proofs.Ranks.{filter_split, range_split}
+use Rattle.node_laws.proofs.Ranks.{filter_split}
 
 -- ---- filters of ranges
 
@@ -198,7 +199,7 @@ module _ (d : Dims) (ss : List State) where
       ∙ ap (λ xs. flat_map (layer_node_keys d ss) (range_with_len 0 h) ++ xs) (sym (layers_have_keys d ss h lt) ∙ sym (append-nil (layer_node_keys d ss h)))
       ∙ (λ i. flat_map (layer_node_keys d ss) (range_with_len 0 h) ++ flat_map (layer_node_keys d ss) (range_with_len (sym (zero-add h) i) 1))
       ∙ sym (flat_map-append (layer_node_keys d ss) (range_with_len 0 h) (range_with_len (0 + h) 1))
-      ∙ ap (flat_map (layer_node_keys d ss)) (sym (range_split 0 h 1))
+      ∙ ap (flat_map (layer_node_keys d ss)) (sym (range_add 0 h 1))
       ∙ ap (λ n. flat_map (layer_node_keys d ss) (range_with_len 0 n)) (sym e)
     where
       eight_times : (s l : ℕ) → 8 * (s + l) ≡ 8 * s + 8 * l

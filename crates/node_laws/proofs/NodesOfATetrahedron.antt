@@ -27,10 +27,11 @@ use Rattle.node_laws.proofs.KeptNodes.{occurs_kept, found}
 use Rattle.lattice_laws.specs.FiniteTests.{below}
 use Rattle.lattice_laws.proofs.FiniteTests.{below_at}
 use Rattle.std.proofs.lemmas.List.Folds.{list_any_at}
-use Rattle.std.proofs.lemmas.Bool.{eqb-true, ltb-true, eq-eqb}
+use Rattle.std.proofs.lemmas.Bool.{eqb-true, ltb-true, eq-eqb, and_parts, not-true}
 use Rattle.std.proofs.lemmas.List.{length-map}
-use Rattle.lattice_laws.proofs.Booleans.{both_true, implied, not_true}
-use Rattle.lattice_laws.proofs.Lists.{any_map, any_filter, pick, place_where}
+use Rattle.list_words.proofs.Lists.{place_where}
+use Rattle.lattice_laws.proofs.Booleans.{implied}
+use Rattle.lattice_laws.proofs.Lists.{any_map, any_filter, pick}
 
 abbrev pub in_slots : Corner → Bool
 in_slots (Whole a) = nat_lt a 4
@@ -105,7 +106,7 @@ module _ (d : Dims) (ss : List State) (tet : List Vertex) (t : IsLatticeTet d te
       let ha = ltb-true a 4 h in
       let b = has_one p in
       let f : key ≡ 8 * id d (slot tet a) = sym e ∙ ap (λ n. 8 * n) (id_slot a ha) in
-      let m : is_minus (sign d ss (slot tet a)) ≡ false = ap is_minus (sym (sign_slot a ha)) ∙ not_true (is_minus (sign_at signs a)) k in
+      let m : is_minus (sign d ss (slot tet a)) ≡ false = ap is_minus (sym (sign_slot a ha)) ∙ not-true (is_minus (sign_at signs a)) k in
       elim (same_or_not a b.0) [
         | inl s ↦ plus (slot tet a) (inside a ha) f (ap (λ n. is_plus (sign d ss (slot tet n))) s ∙ b.2)
         | inr ne ↦ beside (slot tet a) (slot tet b.0) (inside a ha) (inside b.0 b.1) f m (beside_each a b.0 ha b.1 ne) b.2
@@ -117,7 +118,7 @@ module _ (d : Dims) (ss : List State) (tet : List Vertex) (t : IsLatticeTet d te
         | inr ge ↦ elim (eq-or-lt_of_le ge) [ inl e ↦ inl (sym e) | inr lt ↦ inr (λ e. omega arith) ]
       ]
   reason_of (Cut a b) h p k e =
-      let s = both_true (nat_lt a b) (nat_lt b 4) h in
+      let s = and_parts (nat_lt a b) (nat_lt b 4) h in
       let hb = ltb-true b 4 s.1 in let lt = ltb-true a b s.0 in
       let ha : a < 4 = omega arith in
       let f : key ≡ 8 * id d (slot tet a) + direction (slot tet a) (slot tet b) = sym e ∙ ap (λ n. 8 * n + direction (slot tet a) (slot tet b)) (id_slot a ha) in
@@ -140,8 +141,8 @@ module _ (d : Dims) (ss : List State) (tet : List Vertex) (t : IsLatticeTet d te
       let e = sym (occurs_kept tet (map (id d) tet) (keys_ascend tet (map (id d) tet) (tet_ids_rise d tet t)) signs len key) ∙ h in
       let f = sym (any_filter (λ c. corner_key tet (map (id d) tet) c == key) (λ c. has_plus signs && is_kept signs c) corners) ∙ e in
       let r = pick (λ c. (has_plus signs && is_kept signs c) && (corner_key tet (map (id d) tet) c == key)) in_slots corners f refl in
-      let s = both_true (has_plus signs && is_kept signs r.0) (corner_key tet (map (id d) tet) r.0 == key) r.1 in
-      let u = both_true (has_plus signs) (is_kept signs r.0) s.0 in
+      let s = and_parts (has_plus signs && is_kept signs r.0) (corner_key tet (map (id d) tet) r.0 == key) r.1 in
+      let u = and_parts (has_plus signs) (is_kept signs r.0) s.0 in
       record { corner = r.0; slots = r.2; some_plus = u.0; is_there = u.1; key_is = eqb-true _ _ s.1 }
 
   -- so it has a reason
@@ -154,7 +155,7 @@ module _ (d : Dims) (ss : List State) (tet : List Vertex) (t : IsLatticeTet d te
       let ha = ltb-true a 4 h in
       (a, ha, eighth key (id d (slot tet a)) 0 (omega arith) (sym e ∙ ap (λ n. 8 * n) (id_slot a ha) ∙ sym (add-zero (8 * id d (slot tet a)))))
   slot_of (Cut a b) h e =
-      let s = both_true (nat_lt a b) (nat_lt b 4) h in
+      let s = and_parts (nat_lt a b) (nat_lt b 4) h in
       let hb = ltb-true b 4 s.1 in let lt = ltb-true a b s.0 in
       let ha : a < 4 = omega arith in
       let dir = direction_known (slot tet a) (slot tet b) (t.neighbours a b (vertex 0 0 0) lt (in_four b hb)) (t.ordered a b (vertex 0 0 0) lt (in_four b hb)) in

@@ -12,10 +12,11 @@ use Rattle.definitions.specs.Stencils.{is_plus}
 use Rattle.definitions.specs.Mesh.{occurs, tet_pieces, all_pieces, ArePadded, is_inner}
 use Rattle.lattice_laws.specs.NumberedTetrahedra.{IsInner}
 use Rattle.lattice_laws.proofs.ListedTetrahedra.{lattice_tets_listed}
-use Rattle.lattice_laws.proofs.Lists.{any_flat_map, place_where}
+use Rattle.lattice_laws.proofs.Lists.{any_flat_map}
 use Rattle.lattice_laws.proofs.Sublists.{has_at}
 use Rattle.lattice_laws.proofs.Vertices.{vertex_at-id}
 use Rattle.std.proofs.lemmas.Bool.Decides.{nat_tests}
+use Rattle.list_words.proofs.Lists.{place_where}
 use Rattle.node_laws.specs.Reasons.{Reason, sign}
 use Rattle.node_laws.specs.Laws.{NodesHaveReasons}
 use Rattle.node_laws.proofs.NodesOfATetrahedron.{reason}

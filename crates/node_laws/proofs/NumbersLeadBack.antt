@@ -2,14 +2,13 @@
 use Rattle.std.proofs.Common.{◌≡◌, ℕ, ◌+◌, ◌*◌, ◌/◌, ◌%◌, ◌<◌, true, ◌==◌, List, [], ◌∷◌, length, get_or, sym, ap, ◌∙◌, inl, inr, arith, zero-add}
 use Rattle.std.specs.Prelude.{filter}
 use Rattle.std.specs.List.{list_any, range_with_len}
-use Rattle.std.proofs.lemmas.Bool.{eqb-true, eq-eqb}
+use Rattle.std.proofs.lemmas.Bool.{eqb-true, eq-eqb, or_left, or_right}
 use Rattle.std.proofs.lemmas.List.Sums.{passes_at_first}
 use Rattle.definitions.specs.declared.Dims.{Dims}
 use Rattle.definitions.specs.declared.State.{State}
 use Rattle.definitions.specs.Lattice.{vertices}
 use Rattle.definitions.specs.Mesh.{all_pieces, occurs, node_keys, number_of}
 use Rattle.lattice_laws.specs.Ascending.{Has}
-use Rattle.lattice_laws.proofs.Booleans.{or_left, or_right}
 use Rattle.lattice_laws.proofs.Lists.{place_below}
 use Rattle.lattice_laws.proofs.Members.{has_range, has_filter}
 use Rattle.node_laws.specs.Laws.{NumbersAreRanks, NumbersByVertex, NumbersLeadBack}

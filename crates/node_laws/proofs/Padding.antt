@@ -3,7 +3,7 @@ use Rattle.std.proofs.Common.{inl, inr, ◌⊎◌, ◌≡◌, ℕ, zero, suc, �
 use Rattle.std.specs.Prelude.{if◌then◌else◌, ◌==◌, unsigned_abs, Option, Some, None}
 use Rattle.std.proofs.Math.IntN.{ℤ, pos, negsuc, ◌+ℤ◌, ◌*ℤ◌, neg_ℤ}
 use Rattle.std.proofs.lemmas.Int.{ints}
-use Rattle.std.proofs.lemmas.Bool.{eqb-true}
+use Rattle.std.proofs.lemmas.Bool.{eqb-true, leb-true, leb-false, le-leb, and_parts, and_from, true_from_ne_false}
 use Rattle.std.proofs.lemmas.Bool.Decides.{nat_tests}
 use Rattle.std.proofs.lemmas.List.{get_or-map, length-map}
 use lib.Signed.{◌<ℤ◌, ◌≤ℤ◌}
@@ -16,8 +16,6 @@ use Rattle.definitions.specs.Lattice.{InDomain, vertex, vertices, vertex_at}
 use Rattle.definitions.specs.Values.{Field, number_at, is_inside, nearest, corner_difference, cube_sum, value, sign_of}
 use Rattle.definitions.specs.States.{Shares, state_of, states, snapped, sign_of_state}
 use Rattle.definitions.specs.Mesh.{is_inner, state_at}
-use Rattle.lattice_laws.proofs.Lists.{at_most_from_test, above_from_test, test_at_most}
-use Rattle.lattice_laws.proofs.Booleans.{both_true, and_true}
 use Rattle.lattice_laws.proofs.Sublists.{has_at}
 use Rattle.lattice_laws.proofs.Vertices.{from_vertices}
 use Rattle.node_laws.specs.Laws.{StatesArePadded}
@@ -140,25 +138,21 @@ module _ (f : Field) where
   eight_times : (z : ℤ) (m : ℕ) → z ≤ℤ neg_ℤ (pos (max 1 m)) → pos 0 <ℤ (pos 8 *ℤ z) → ⊥
   eight_times z m h i = absurd (omega (arith, ints))
 
-  settle : (b : Bool) → (b ≡ false → ⊥) → b ≡ true
-  settle true h = refl
-  settle false h = absurd (h refl)
-
   six : (a b c d e g : Bool) → (a ≡ true) → (b ≡ true) → (c ≡ true) → (d ≡ true) → (e ≡ true) → (g ≡ true) → (a && (b && (c && (d && (e && g))))) ≡ true
-  six a b c d e g p q r s t u = and_true a _ p (and_true b _ q (and_true c _ r (and_true d _ s (and_true e g t u))))
+  six a b c d e g p q r s t u = and_from a _ p (and_from b _ q (and_from c _ r (and_from d _ s (and_from e g t u))))
 
   inside_inner : (n x : ℕ) → x % 2 ≡ 0 → is_inside n (x / 2) ≡ true → (nat_le 2 x ≡ true) × (nat_le x (2 * n) ≡ true)
   inside_inner n x e h =
-      let s = both_true (nat_le 1 (x / 2)) (nat_le (x / 2) n) h in
-      let low : 1 ≤ x / 2 = at_most_from_test 1 (x / 2) s.0 in
-      let high : x / 2 ≤ n = at_most_from_test (x / 2) n s.1 in
-      (test_at_most 2 x (omega arith), test_at_most x (2 * n) (omega arith))
+      let s = and_parts (nat_le 1 (x / 2)) (nat_le (x / 2) n) h in
+      let low : 1 ≤ x / 2 = leb-true 1 (x / 2) s.0 in
+      let high : x / 2 ≤ n = leb-true (x / 2) n s.1 in
+      (le-leb 2 x (omega arith), le-leb x (2 * n) (omega arith))
 
   low_edge : (x : ℕ) → x % 2 ≡ 1 → nat_le 2 x ≡ false → x / 2 ≡ 0
-  low_edge x e h = let f : x < 2 = above_from_test 2 x h in omega arith
+  low_edge x e h = let f : x < 2 = leb-false 2 x h in omega arith
 
   high_edge : (n x : ℕ) → x < 2 * n + 3 → x % 2 ≡ 1 → nat_le x (2 * n) ≡ false → x / 2 ≡ n
-  high_edge n x lt e h = let f : 2 * n < x = above_from_test x (2 * n) h in omega arith
+  high_edge n x lt e h = let f : 2 * n < x = leb-false x (2 * n) h in omega arith
 
   odd : (h : ℕ) → (h % 2 == 0) ≡ false → h % 2 ≡ 1
   odd h e = grind (arith, nat_tests)
@@ -171,9 +165,9 @@ module _ (f : Field) where
       go : (b : Bool) → (v.h % 2 == 0) ≡ b → pos 0 <ℤ (if b then pos 8 *ℤ corner_difference f (v.x / 2) (v.y / 2) (v.h / 2) else cube_sum f (v.x / 2) (v.y / 2) (v.h / 2)) → is_inner f.dims v ≡ true
       go true e h =
           let z = eqb-true (v.h % 2) 0 e in
-          let t = settle (is_corner_inside f (v.x / 2) (v.y / 2) (v.h / 2)) (λ o. eight_times (corner_difference f (v.x / 2) (v.y / 2) (v.h / 2)) (unsigned_abs (nearest_number f (v.x / 2) (v.y / 2) (v.h / 2))) (outside (v.x / 2) (v.y / 2) (v.h / 2) o) h) in
-          let s = both_true (is_inside f.dims.nx (v.x / 2)) _ t in
-          let r = both_true (is_inside f.dims.ny (v.y / 2)) _ s.1 in
+          let t = true_from_ne_false (is_corner_inside f (v.x / 2) (v.y / 2) (v.h / 2)) (λ o. eight_times (corner_difference f (v.x / 2) (v.y / 2) (v.h / 2)) (unsigned_abs (nearest_number f (v.x / 2) (v.y / 2) (v.h / 2))) (outside (v.x / 2) (v.y / 2) (v.h / 2) o) h) in
+          let s = and_parts (is_inside f.dims.nx (v.x / 2)) _ t in
+          let r = and_parts (is_inside f.dims.ny (v.y / 2)) _ s.1 in
           let x = inside_inner f.dims.nx v.x (k.x_alike ∙ z) s.0 in
           let y = inside_inner f.dims.ny v.y (k.y_alike ∙ z) r.0 in
           let w = inside_inner f.dims.nz v.h z r.1 in
@@ -182,12 +176,12 @@ module _ (f : Field) where
           let o = odd v.h e in
           let no : IsEdge (v.x / 2) (v.y / 2) (v.h / 2) → ⊥ = λ g. no_gain (cube_sum f (v.x / 2) (v.y / 2) (v.h / 2)) (cube_not_above (v.x / 2) (v.y / 2) (v.h / 2) g) h in
           six (nat_le 2 v.h) (nat_le v.h (2 * f.dims.nz)) (nat_le 2 v.y) (nat_le v.y (2 * f.dims.ny)) (nat_le 2 v.x) (nat_le v.x (2 * f.dims.nx))
-          (settle (nat_le 2 v.h) (λ g. no (inr (inr (inl (low_edge v.h o g))))))
-          (settle (nat_le v.h (2 * f.dims.nz)) (λ g. no (inr (inr (inr (high_edge f.dims.nz v.h k.h_below o g))))))
-          (settle (nat_le 2 v.y) (λ g. no (inr (inl (inl (low_edge v.y (k.y_alike ∙ o) g))))))
-          (settle (nat_le v.y (2 * f.dims.ny)) (λ g. no (inr (inl (inr (high_edge f.dims.ny v.y k.y_below (k.y_alike ∙ o) g))))))
-          (settle (nat_le 2 v.x) (λ g. no (inl (inl (low_edge v.x (k.x_alike ∙ o) g)))))
-          (settle (nat_le v.x (2 * f.dims.nx)) (λ g. no (inl (inr (high_edge f.dims.nx v.x k.x_below (k.x_alike ∙ o) g)))))
+          (true_from_ne_false (nat_le 2 v.h) (λ g. no (inr (inr (inl (low_edge v.h o g))))))
+          (true_from_ne_false (nat_le v.h (2 * f.dims.nz)) (λ g. no (inr (inr (inr (high_edge f.dims.nz v.h k.h_below o g))))))
+          (true_from_ne_false (nat_le 2 v.y) (λ g. no (inr (inl (inl (low_edge v.y (k.y_alike ∙ o) g))))))
+          (true_from_ne_false (nat_le v.y (2 * f.dims.ny)) (λ g. no (inr (inl (inr (high_edge f.dims.ny v.y k.y_below (k.y_alike ∙ o) g))))))
+          (true_from_ne_false (nat_le 2 v.x) (λ g. no (inl (inl (low_edge v.x (k.x_alike ∙ o) g)))))
+          (true_from_ne_false (nat_le v.x (2 * f.dims.nx)) (λ g. no (inl (inr (high_edge f.dims.nx v.x k.x_below (k.x_alike ∙ o) g)))))
 
 -- ---- states
 

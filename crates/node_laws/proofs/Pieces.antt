@@ -1,5 +1,5 @@
 -- The pieces of the mesh by layers, what nodes they use, and how many there are in a lattice tetrahedron.
-use Rattle.std.proofs.Common.{◌≡◌, ◌==◌, ◌<◌, ℕ, true, List, [], ◌∷◌, ◌++◌, length, map, get_or, refl, ap, ◌∙◌}
+use Rattle.std.proofs.Common.{◌≡◌, ◌==◌, ℕ, true, List, [], ◌∷◌, ◌++◌, length, map, refl, ap, ◌∙◌}
 use Rattle.std.specs.Prelude.{count_by, flat_map}
 use Rattle.std.specs.List.{list_any, range_with_len}
 use Rattle.std.proofs.lemmas.List.{length-map}
@@ -51,12 +51,6 @@ pub lattice_tet_uses_nodes : (d : Dims) (ss : List State) (tet : List Vertex) (k
 lattice_tet_uses_nodes d ss tet key t o = pieces_use_nodes d ss tet key ((lattice_tets_listed d tet).1 t) o
 
 -- a node of a piece in a list occurs in the list
-pub occurs_at : (ps : List (List ℕ)) (i j : ℕ) → i < length ps → j < length (get_or ps i []) → occurs ps (get_or (get_or ps i []) j 0) ≡ true
-occurs_at ps i j hi hj =
-    let key = get_or (get_or ps i []) j 0 in
-    list_any_at (list_any (λ k. k == key)) ps i [] hi (list_any_at (λ k. k == key) (get_or ps i []) j 0 hj (eq-eqb key key refl))
-
--- the same by members
 pub occurs_in : (ps : List (List ℕ)) (p : List ℕ) (key : ℕ) → Has p ps → Has key p → occurs ps key ≡ true
 occurs_in ps p key h k = any_of_member (list_any (λ k. k == key)) p ps h (any_of_member (λ k. k == key) key p k (eq-eqb key key refl))
 

@@ -2,6 +2,7 @@
 use Rattle.std.proofs.Common.{◌≡◌, ℕ, ◌+◌, ◌*◌, ◌<◌, List, length, sym, ap, subst, ◌∙◌, arith}
 use Rattle.std.specs.Prelude.{Contains}
 use Rattle.std.specs.List.{range_with_len}
+use Rattle.std.proofs.lemmas.Bool.{both_ways}
 use Rattle.definitions.specs.declared.Dims.{Dims}
 use Rattle.definitions.specs.declared.State.{State}
 use Rattle.definitions.specs.declared.Sign.TheVariants.{Minus, Plus}
@@ -10,7 +11,6 @@ use Rattle.definitions.specs.States.{sign_of_state}
 use Rattle.definitions.specs.Stencils.{is_plus, is_minus}
 use Rattle.definitions.specs.Mesh.{state_at, all_pieces, occurs, ArePadded, node_keys}
 use Rattle.lattice_laws.specs.Ascending.{Has}
-use Rattle.lattice_laws.proofs.Booleans.{not_both}
 use Rattle.lattice_laws.proofs.Directions.{direction_known}
 use Rattle.lattice_laws.proofs.Members.{has_range, has_filter, from_filter, place_of}
 use Rattle.lattice_laws.proofs.Sublists.{has_at}
@@ -40,8 +40,8 @@ module _ (d : Dims) (ss : List State) (padded : ArePadded d ss) (n : ℕ) (lt : 
       (has_filter (occurs (all_pieces d ss)) (8 * n) (range_with_len 0 (8 * length (vertices d))) (has_range 0 (8 * length (vertices d)) (8 * n) (omega arith) (omega arith)) ((nodes_have_reasons d ss padded (8 * n)).1 why))
 
   no_reason : sign_of_state (state_at ss n) ≡ Minus → Reason d ss (8 * n) → ⊥
-  no_reason s (plus v k e p) = not_both (is_plus (sign d ss v)) p (ap (λ m. is_plus (sign_of_state (state_at ss m))) (sym (same_eighth n (id d v) e)) ∙ ap is_plus s)
-  no_reason s (beside v w k l e m near p) = not_both (is_minus (sign d ss v)) (ap (λ m. is_minus (sign_of_state (state_at ss m))) (sym (same_eighth n (id d v) e)) ∙ ap is_minus s) m
+  no_reason s (plus v k e p) = both_ways (is_plus (sign d ss v)) (ap (λ m. is_plus (sign_of_state (state_at ss m))) (sym (same_eighth n (id d v) e)) ∙ ap is_plus s) p
+  no_reason s (beside v w k l e m near p) = both_ways (is_minus (sign d ss v)) m (ap (λ m. is_minus (sign_of_state (state_at ss m))) (sym (same_eighth n (id d v) e)) ∙ ap is_minus s)
   no_reason s (crossed u w k l e near b o) = let r = direction_known u w near b in no_cut n (id d u) (direction u w) r.0 r.1 e
 
   minus_node : sign_of_state (state_at ss n) ≡ Minus → Contains (node_keys d ss) (8 * n) → ⊥

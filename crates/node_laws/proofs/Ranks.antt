@@ -1,22 +1,13 @@
 -- The number of a node is a rank, and counts of parts add up to ranks.
-use Rattle.std.proofs.Common.{[], ◌≡◌, ◌≢◌, ℕ, zero, suc, ◌+◌, ◌<◌, Bool, true, false, not, cond, ◌==◌, List, ◌∷◌, ◌++◌, length, refl, sym, ap, ◌∙◌, arith, length-append, add-zero, zero-add}
+use Rattle.std.proofs.Common.{[], ◌≡◌, ◌≢◌, ℕ, zero, suc, ◌+◌, ◌<◌, Bool, true, false, not, cond, ◌==◌, List, ◌∷◌, ◌++◌, length, refl, sym, ap, ◌∙◌, arith, length-append}
 use Rattle.std.specs.List.{range_with_len, position_or_len, filter}
 use Rattle.std.proofs.lemmas.Bool.Decides.{nat_tests}
 use Rattle.std.proofs.lemmas.List.Elements.{filter-append}
+use Rattle.list_words.proofs.Ranges.{range_add}
 
--- a range in two parts that follow each other, those of it that pass a test, and how many do
-pub range_split : (a m n : ℕ) → range_with_len a (m + n) ≡ range_with_len a m ++ range_with_len (a + m) n
-range_split a zero n = λ i. range_with_len (sym (add-zero a) i) (zero-add n i)
-range_split a (suc m) n = (λ i. range_with_len a (suc_plus m n i)) ∙ (ap (λ xs. a ∷ xs) (range_split (a + 1) m n) ∙ (λ i. a ∷ (range_with_len (a + 1) m ++ range_with_len (shift a m i) n)))
-  where
-    suc_plus : (m n : ℕ) → suc m + n ≡ suc (m + n)
-    suc_plus m n = omega arith
-
-    shift : (a m : ℕ) → a + 1 + m ≡ a + suc m
-    shift a m = omega arith
-
+-- of a range in two parts that follow each other, those that pass a test, and how many do
 pub filter_split : (p : ℕ → Bool) (a m n : ℕ) → filter p (range_with_len a (m + n)) ≡ filter p (range_with_len a m) ++ filter p (range_with_len (a + m) n)
-filter_split p a m n = ap (filter p) (range_split a m n) ∙ filter-append p (range_with_len a m) (range_with_len (a + m) n)
+filter_split p a m n = ap (filter p) (range_add a m n) ∙ filter-append p (range_with_len a m) (range_with_len (a + m) n)
 
 pub count_split : (p : ℕ → Bool) (a m n : ℕ) → length (filter p (range_with_len a (m + n))) ≡ length (filter p (range_with_len a m)) + length (filter p (range_with_len (a + m) n))
 count_split p a m n = ap length (filter_split p a m n) ∙ length-append (filter p (range_with_len a m)) (filter p (range_with_len (a + m) n))

@@ -1,10 +1,12 @@
 -- Nodes and pieces of a layer are read off the layer, the two below and the two above.
-use Rattle.std.proofs.Common.{◌≡◌, ℕ, zero, suc, ◌+◌, ◌*◌, ◌/◌, ◌%◌, ◌<◌, ◌≤◌, Bool, true, false, cond, ◌||◌, ◌==◌, List, [], ◌∷◌, ◌++◌, length, map, Option, Some, None, if◌then◌else◌, nat_eq, length-append, refl, sym, ap, subst, ◌∙◌, arith, inl, inr}
+use Rattle.std.proofs.Common.{◌≡◌, ℕ, zero, suc, ◌+◌, ◌*◌, ◌/◌, ◌%◌, ◌<◌, ◌≤◌, Bool, true, false, cond, ◌==◌, List, [], ◌∷◌, length, map, Option, Some, None, if◌then◌else◌, nat_eq, length-append, refl, sym, ap, subst, ◌∙◌, arith, inl, inr}
 use Rattle.std.specs.Prelude.{filter, flat_map, sum}
 use Rattle.std.specs.List.{list_any, range_with_len, AllByRecursion}
 use Rattle.std.specs.Option.{option_map_or}
 use Rattle.std.proofs.lemmas.Bool.Decides.{nat_tests}
 use Rattle.std.proofs.lemmas.List.Sums.{sum-map, sum_by-cons}
+use Rattle.std.proofs.lemmas.Bool.{and_parts}
+use Rattle.list_words.proofs.Ranges.{any_agree}
 use Rattle.definitions.specs.declared.Dims.{Dims}
 use Rattle.definitions.specs.declared.Vertex.{Vertex}
 use Rattle.definitions.specs.declared.State.{State}
@@ -19,8 +21,7 @@ use Rattle.lattice_laws.specs.Ascending.{Has}
 use Rattle.lattice_laws.proofs.KeyOrder.{tet_ids_rise}
 use Rattle.lattice_laws.proofs.LaterNeighbours.{neighbour_to, steps_lead_later}
 use Rattle.lattice_laws.proofs.ListedTetrahedra.{lattice_tets_listed}
-use Rattle.lattice_laws.proofs.Booleans.{both_true}
-use Rattle.lattice_laws.proofs.Members.{from_flat_map, from_map, has_flat_map, has_range}
+use Rattle.lattice_laws.proofs.Members.{from_flat_map, from_map, has_flat_map, has_range, flat_map_same}
 use Rattle.lattice_laws.proofs.Sublists.{all_by_place, all_from_place, has_at, pairs_from_place}
 use Rattle.lattice_laws.proofs.Vertices.{domain_out, from_vertices, has_vertex, vertex_at-id}
 use Rattle.stencil_laws.specs.Cases.{case_pieces}
@@ -40,13 +41,6 @@ filters_agree p q a (suc n) h =
     let first = h a (omega arith) (omega arith) in
     let rest = filters_agree p q (a + 1) n (λ k lo hi. h k (omega arith) (omega arith)) in
     λ i. cond (first i) (a ∷ rest i) (rest i)
-
-any_agree : (p q : ℕ → Bool) (a n : ℕ) → ((k : ℕ) → a ≤ k → k < a + n → p k ≡ q k) → list_any p (range_with_len a n) ≡ list_any q (range_with_len a n)
-any_agree p q a zero h = refl
-any_agree p q a (suc n) h =
-    let first = h a (omega arith) (omega arith) in
-    let rest = any_agree p q (a + 1) n (λ k lo hi. h k (omega arith) (omega arith)) in
-    λ i. first i || rest i
 
 -- neighbours are at most two layers apart
 near_layers : (u w : Vertex) → are_neighbours u w ≡ true → (u.h ≤ w.h + 2) × (w.h ≤ u.h + 2)
@@ -84,7 +78,7 @@ module _ (d : Dims) (said others : Vertex → State) where
         go None f = refl
         go (Some w) f =
             let n = neighbour_to d v w dir f in
-            let near = (both_true (before v w) (are_neighbours v w) (steps_lead_later dir v w lo (omega arith) n.0)).1 in
+            let near = (and_parts (before v w) (are_neighbours v w) (steps_lead_later dir v w lo (omega arith) n.0)).1 in
             λ i. are_opposite (sign_of_state (same_here i)) (sign_of_state (same_beside w (domain_out d w n.1) (inl near) i))
 
     same_used : (dir : ℕ) → dir ≤ 7 → (b : Bool) → nat_eq dir 0 ≡ b → (if b then vertex_used d said v (said v) else cut_on d said v dir) ≡ (if b then vertex_used d others v (others v) else cut_on d others v dir)
@@ -143,7 +137,7 @@ from_layer d h v lt k =
     (from_vertices d v (has_flat_map (layer d) h v (range_with_len 0 (layers d)) (has_range 0 (layers d) h (omega arith) (omega arith)) k), sym (ap (λ w. w.h) c.2))
 
 -- a lattice tetrahedron from a vertex
-from_tets : (d : Dims) (v : Vertex) (tet : List Vertex) → InDomain d v → Has tet (tets_from d v) → IsLatticeTet d tet
+pub from_tets : (d : Dims) (v : Vertex) (tet : List Vertex) → InDomain d v → Has tet (tets_from d v) → IsLatticeTet d tet
 unfolding lattice_tets
 from_tets d v tet k m = (lattice_tets_listed d tet).0 (has_flat_map (tets_from d) v tet (vertices d) (has_vertex d v k) m)
 
@@ -208,14 +202,10 @@ module _ (d : Dims) (ss : List State) (h : ℕ) (said : Vertex → State) (agree
   count_of_vertex : (v : Vertex) → InDomain d v → v.h ≡ h → length (flat_map (tet_pieces d ss) (tets_from d v)) ≡ pieces_from d said v
   count_of_vertex v k e = lengths_sum (tet_pieces d ss) (λ tet. length (case_pieces (map (λ w. sign_of_state (said w)) tet))) (tets_from d v) (count_of_tet v k e)
 
-flat_maps_agree : {X Y : Type 0} (f g : X → List Y) (xs : List X) → ((x : X) → Has x xs → f x ≡ g x) → flat_map f xs ≡ flat_map g xs
-flat_maps_agree f g [] h = refl
-flat_maps_agree f g (x ∷ xs) h = λ i. h x (inl refl) i ++ flat_maps_agree f g xs (λ y k. h y (inr k)) i
-
 -- the pieces of a layer, and how many there are
 pub layers_have_pieces : LayersHavePieces
 layers_have_pieces d ss h said lt agree =
-    flat_maps_agree (tet_pieces d ss) (pieces_of d said) (flat_map (tets_from d) (layer d h)) (λ tet m. of_tet d ss h said agree tet (from_layer_tets d h tet lt m))
+    flat_map_same (tet_pieces d ss) (pieces_of d said) (flat_map (tets_from d) (layer d h)) (λ tet m. of_tet d ss h said agree tet (from_layer_tets d h tet lt m))
 
 pub layers_count_pieces : LayersCountPieces
 layers_count_pieces d ss h said lt agree =

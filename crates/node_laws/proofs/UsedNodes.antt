@@ -2,10 +2,12 @@
 use Rattle.std.proofs.Common.{◌≡◌, ◌⊎◌, ℕ, ◌+◌, ◌-◌, ◌*◌, ◌/◌, ◌%◌, ◌<◌, ◌≤◌, Bool, true, false, List, length, get_or, Option, Some, None, if◌then◌else◌, nat_eq, refl, sym, ap, ◌∙◌, arith, inl, inr}
 use Rattle.std.specs.List.{list_any, range_with_len}
 use Rattle.std.specs.Option.{option_map_or}
-use Rattle.std.proofs.lemmas.Bool.{eqb-true, eq-eqb}
+use Rattle.std.proofs.lemmas.Bool.{eqb-true, eq-eqb, and_parts}
 use Rattle.std.proofs.lemmas.Bool.Decides.{nat_tests}
 use Rattle.std.proofs.lemmas.List.Folds.{list_any_at}
 use Rattle.std.proofs.lemmas.List.FromFn.{get_or-range_with_len, length-range_with_len}
+use Rattle.list_words.proofs.Tests.{same_tests}
+use Rattle.list_words.proofs.Lists.{place_where}
 use Rattle.definitions.specs.declared.Dims.{Dims}
 use Rattle.definitions.specs.declared.Vertex.{Vertex}
 use Rattle.definitions.specs.declared.State.{State}
@@ -14,8 +16,6 @@ use Rattle.definitions.specs.Lattice.{InDomain, id, before, are_neighbours, neig
 use Rattle.definitions.specs.Cuts.{are_opposite}
 use Rattle.definitions.specs.States.{sign_of_state, direction_of, is_up}
 use Rattle.definitions.specs.Stencils.{is_plus, is_minus}
-use Rattle.lattice_laws.proofs.Booleans.{both_true, same_tests}
-use Rattle.lattice_laws.proofs.Lists.{place_where}
 use Rattle.lattice_laws.proofs.Vertices.{domain_out, domain_in, id-vertex_at, vertex_at-id, from_vertices}
 use Rattle.lattice_laws.proofs.Sublists.{has_at}
 use Rattle.lattice_laws.proofs.EdgeSteps.{StepTo, step_to, direction_of_step, back_from, from_back}
@@ -28,7 +28,7 @@ use Rattle.node_laws.proofs.NodesOfTheMesh.{nodes_have_reasons}
 
 -- ---- edges at a vertex
 
-plus_state : (s : State) → is_plus_state s ≡ is_plus (sign_of_state s)
+pub plus_state : (s : State) → is_plus_state s ≡ is_plus (sign_of_state s)
 plus_state state.Minus = refl
 plus_state state.Plus = refl
 plus_state (state.Zero edge k) = refl
@@ -44,10 +44,10 @@ on_edge d v w e lo hi f =
     (domain_out d w n.1, near_by (is_up e) refl n.0)
   where
     near_by : (b : Bool) → is_up e ≡ b → moved v (directed b (step (if b then e else e - 7))) ≡ Some w → Beside v w
-    near_by true f m = inl (both_true (before v w) (are_neighbours v w) (steps_lead_later e v w lo (let g : e ≤ 7 = grind (arith, nat_tests) in omega arith) m)).1
+    near_by true f m = inl (and_parts (before v w) (are_neighbours v w) (steps_lead_later e v w lo (let g : e ≤ 7 = grind (arith, nat_tests) in omega arith) m)).1
     near_by false f m =
         let g : 7 < e = grind (arith, nat_tests) in
-        inr (both_true (before w v) (are_neighbours w v) (steps_lead_later (e - 7) w v (omega arith) (omega arith) (from_back (e - 7) v w (omega arith) (omega arith) m))).1
+        inr (and_parts (before w v) (are_neighbours w v) (steps_lead_later (e - 7) w v (omega arith) (omega arith) (from_back (e - 7) v w (omega arith) (omega arith) m))).1
 
 module _ (d : Dims) (ss : List State) where
   -- a Plus neighbour on an edge
@@ -130,7 +130,7 @@ module _ (d : Dims) (ss : List State) where
     cut_reason z None f h = cc
     cut_reason z (Some w) f h =
         let n = neighbour_to d here w (key % 8) f in
-        let s = both_true (before here w) (are_neighbours here w) (steps_lead_later (key % 8) here w z (omega arith) n.0) in
+        let s = and_parts (before here w) (are_neighbours here w) (steps_lead_later (key % 8) here w z (omega arith) n.0) in
         let e = direction_of_step (key % 8) here w z (omega arith) n.0 in
         crossed here w inside (domain_out d w n.1) (let g = id_here in omega arith) s.1 s.0 h
 

@@ -3,7 +3,7 @@ use Rattle.std.specs.Prelude.{ℕ, ◌+◌, ◌*◌, ◌/◌, ◌%◌, ◌<◌, 
 use Rattle.std.proofs.Common.{◌≡◌, refl, sym, ap, subst, ◌∙◌, arith}
 use Rattle.std.specs.List.{list_any, list_all}
 use Rattle.std.proofs.Math.IntN.{ℤ, pos, ◌+ℤ◌, ◌*ℤ◌, neg_ℤ}
-use Rattle.std.proofs.lemmas.Bool.{eqb-true, eq-eqb, ltb-true}
+use Rattle.std.proofs.lemmas.Bool.{eqb-true, eq-eqb, ltb-true, and_parts}
 use Rattle.std.proofs.lemmas.Bool.Decides.{nat_tests}
 use Rattle.std.proofs.lemmas.List.{length-map, get_or-map}
 use Rattle.definitions.specs.declared.Vertex.{Vertex}
@@ -30,7 +30,6 @@ use Rattle.lattice_laws.specs.Ascending.{Has}
 use Rattle.lattice_laws.specs.FiniteTests.{every_case}
 use Rattle.lattice_laws.specs.Vectors.{Vector, vector, origin, ◌+ᵥ◌, ◌*ᵥ◌}
 use Rattle.lattice_laws.specs.Kinds.{Kind, vector_of}
-use Rattle.lattice_laws.proofs.Booleans.{both_true}
 use Rattle.lattice_laws.proofs.FiniteTests.{each_case}
 use Rattle.lattice_laws.proofs.Lists.{all_at_member}
 use Rattle.lattice_laws.proofs.Members.{has_map, any_of_member}
@@ -70,8 +69,8 @@ pub record IsPiece (signs : List Sign) (p : List Corner) : Type 0 where
 pub piece_is : (signs : List Sign) (p : List Corner) → length signs ≡ 4 → Has p (case_pieces signs) → IsPiece signs p
 piece_is signs p len m =
     let e = all_at_member (λ p. length p == 4 && list_all (λ c. in_slots c && is_kept signs c) p) (case_pieces signs) p (each_case has_kept_nodes all_have_kept_nodes signs len) m in
-    let g = both_true (length p == 4) _ e in
-    record { four = eqb-true _ _ g.0; nodes = λ c k. both_true (in_slots c) _ (all_at_member (λ c. in_slots c && is_kept signs c) p c g.1 k) }
+    let g = and_parts (length p == 4) _ e in
+    record { four = eqb-true _ _ g.0; nodes = λ c k. and_parts (in_slots c) _ (all_at_member (λ c. in_slots c && is_kept signs c) p c g.1 k) }
 
 -- ---- a node's number leads to its place
 
@@ -248,7 +247,7 @@ module _ (f : Field) (s : Shares) where
     stands_there : (c : Corner) → in_slots c ≡ true → is_kept (signs_of f s tet) c ≡ true → IsNodePlace f s b κ (from_padding (node_place f (states f s) (corner_key tet (map (id f.dims) tet) c))) c
     stands_there (Whole a) h k = let ha = ltb-true a 4 h in (ha, whole_stands a ha)
     stands_there (Cut a c) h k =
-        let g = both_true (nat_lt a c) (nat_lt c 4) h in
+        let g = and_parts (nat_lt a c) (nat_lt c 4) h in
         let lt = ltb-true a c g.0 in let hc = ltb-true c 4 g.1 in
         let ha : a < 4 = omega arith in
         let o : are_opposite (sign_of_state (state_of f s (slot tet a))) (sign_of_state (state_of f s (slot tet c))) ≡ true = sym (λ i. are_opposite (sign_slot a ha i) (sign_slot c hc i)) ∙ k in

@@ -1,6 +1,6 @@
 -- An oriented piece has the nodes of the piece, the last two in either order.
-use Rattle.std.specs.Prelude.{Bool, true, false, List, [], ◌∷◌, length, map, if◌then◌else◌, int_lt, pos}
-use Rattle.std.proofs.Common.{◌≡◌, refl, inl, inr}
+use Rattle.std.specs.Prelude.{Bool, true, false, List, [], ◌∷◌, map, if◌then◌else◌, int_lt, pos}
+use Rattle.std.proofs.Common.{inl, inr}
 use Rattle.definitions.specs.declared.Vertex.{Vertex}
 use Rattle.definitions.specs.declared.Corner.{Corner}
 use Rattle.definitions.specs.Pieces.{oriented, swap_last_two, middle}
@@ -42,19 +42,3 @@ from_oriented tet c p m = go (int_lt (det (map (middle tet) p)) (pos 0)) m
     go : (b : Bool) → Has c (if b then swap_last_two p else p) → Has c p
     go true m = from_swapped c p m
     go false m = m
-
-length_swapped : (p : List Corner) → length (swap_last_two p) ≡ length p
-length_swapped [] = refl
-length_swapped (a ∷ []) = refl
-length_swapped (a ∷ b ∷ []) = refl
-length_swapped (a ∷ b ∷ c ∷ []) = refl
-length_swapped (a ∷ b ∷ c ∷ d ∷ []) = refl
-length_swapped (a ∷ b ∷ c ∷ d ∷ e ∷ p) = refl
-
-pub length_oriented : (tet : List Vertex) (p : List Corner) → length (oriented tet p) ≡ length p
-unfolding oriented
-length_oriented tet p = go (int_lt (det (map (middle tet) p)) (pos 0))
-  where
-    go : (b : Bool) → length (if b then swap_last_two p else p) ≡ length p
-    go true = length_swapped p
-    go false = refl

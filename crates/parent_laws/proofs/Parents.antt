@@ -21,7 +21,7 @@ use Rattle.lattice_laws.specs.Kinds.{Kind, kind_146, vector_of, tet_of_kind, Kin
 use Rattle.lattice_laws.proofs.KeyOrder.{pieces_by_table, tet_ids_rise}
 use Rattle.lattice_laws.proofs.Laws.{tets_are_of_six_kinds}
 use Rattle.lattice_laws.proofs.ListedTetrahedra.{lattice_tets_listed}
-use Rattle.lattice_laws.proofs.Members.{from_flat_map, from_map}
+use Rattle.lattice_laws.proofs.Members.{from_flat_map, from_map, flat_map_same, map_same}
 use Rattle.lattice_laws.proofs.Vertices.{vertex_at-id}
 use Rattle.stencil_laws.specs.Cases.{case_pieces, four_signs}
 use Rattle.piece_laws.specs.Renaming.{vertex_at, signs_at}
@@ -36,15 +36,6 @@ use Rattle.lattice_laws.proofs.Lists.{four_of}
 map_of_flat_map : {X Y Z : Type 0} (g : Y → Z) (f : X → List Y) (xs : List X) → map g (flat_map f xs) ≡ flat_map (λ x. map g (f x)) xs
 map_of_flat_map g f [] = refl
 map_of_flat_map g f (x ∷ xs) = map-append g (f x) (flat_map f xs) ∙ ap (λ ys. map g (f x) ++ ys) (map_of_flat_map g f xs)
-
--- what two functions give alike of each member
-flat_map_same : {X Y : Type 0} (f g : X → List Y) (xs : List X) → ((x : X) → Has x xs → f x ≡ g x) → flat_map f xs ≡ flat_map g xs
-flat_map_same f g [] h = refl
-flat_map_same f g (x ∷ xs) h = λ i. h x (inl refl) i ++ flat_map_same f g xs (λ y m. h y (inr m)) i
-
-map_same : {X Y : Type 0} (f g : X → Y) (xs : List X) → ((x : X) → Has x xs → f x ≡ g x) → map f xs ≡ map g xs
-map_same f g [] h = refl
-map_same f g (x ∷ xs) h = λ i. h x (inl refl) i ∷ map_same f g xs (λ y m. h y (inr m)) i
 
 module _ (f : Field) (s : Shares) where
   -- the state of a vertex, by its id

@@ -6,10 +6,11 @@ use Rattle.std.proofs.lemmas.List.{map-append}
 use Rattle.std.proofs.lemmas.Nat.{div-mul-add, mod-mul-add}
 use Rattle.std.proofs.lemmas.List.FromFn.{map-range_with_len_more}
 use Rattle.std.specs.List.{range_with_len}
+use Rattle.list_words.proofs.Ranges.{range_add}
 use Rattle.phantom.specs.Noise.{state, next_state}
 use Rattle.phantom.specs.Phantom.{off_middle, faded, phantom_sample}
 use Rattle.phantom.specs.Rows.{row_sample, row_samples}
-use Rattle.phantom.proofs.Sequences.{state_add, state_next, range_add, map_shift}
+use Rattle.phantom.proofs.Sequences.{state_add, state_next, map_shift}
 
 -- what is known of the two coordinates that a row has
 abbrev pub row_rest : ℕ → ℕ → ℕ

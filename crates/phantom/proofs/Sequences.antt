@@ -1,5 +1,5 @@
 -- States of the noise, and lists over ranges.
-use Rattle.std.proofs.Common.{◌≡◌, ℕ, ◌+◌, ◌<◌, zero, suc, List, ◌∷◌, ◌++◌, map, ℤ, refl, ap, ◌∙◌, arith}
+use Rattle.std.proofs.Common.{◌≡◌, ℕ, ◌+◌, ◌<◌, zero, suc, ◌∷◌, map, ℤ, refl, ap, ◌∙◌, arith}
 use Rattle.std.specs.Fn.{iterate}
 use Rattle.std.specs.List.{range_with_len}
 use Rattle.phantom.specs.Noise.{next_state, state}
@@ -15,16 +15,6 @@ state_add seed m k = iterate_add next_state m k seed
 
 pub state_next : (seed k : ℕ) → state seed (k + 1) ≡ next_state (state seed k)
 state_next seed k = state_add seed k 1
-
-pub range_add : (a m n : ℕ) → range_with_len a (m + n) ≡ range_with_len a m ++ range_with_len (a + m) n
-range_add a zero n =
-    let e : 0 + n ≡ n = omega arith in
-    let f : a ≡ a + 0 = omega arith in
-    ap (λ (k : ℕ). range_with_len a k) e ∙ ap (λ (k : ℕ). range_with_len k n) f
-range_add a (suc m) n =
-    let e : suc m + n ≡ suc (m + n) = omega arith in
-    let f : a + 1 + m ≡ a + suc m = omega arith in
-    ap (λ (k : ℕ). range_with_len a k) e ∙ ap (λ (ks : List ℕ). a ∷ ks) (range_add (a + 1) m n ∙ ap (λ (k : ℕ). range_with_len (a + 1) m ++ range_with_len k n) f)
 
 -- a list over a later range
 pub map_shift : (f g : ℕ → ℤ) (a b n : ℕ) → ((x : ℕ) → x < b + n → f (a + x) ≡ g x) → map f (range_with_len (a + b) n) ≡ map g (range_with_len b n)

@@ -1,8 +1,8 @@
 -- The shared nodes of a piece of one lattice tetrahedron are, renamed, nodes of one piece of another: sixteen patterns of shared vertices, each by a computation over all cases.
 use Rattle.std.specs.Prelude.{◌≡◌, ℕ, zero, suc, ◌+◌, ◌<◌, ◌≤◌, Bool, true, false, not, ◌&&◌, ◌||◌, ◌==◌, nat_lt, nat_le, List, [], ◌∷◌, filter, if◌then◌else◌}
 use Rattle.std.specs.List.{list_any, list_all}
-use Rattle.std.proofs.Common.{refl, sym, ap, subst, ◌∙◌, arith, inl, inr, ◌⊎◌}
-use Rattle.std.proofs.lemmas.Bool.{eqb-true, eq-eqb}
+use Rattle.std.proofs.Common.{refl, sym, ap, subst, ◌∙◌, arith, inl, inr, ◌⊎◌, le_of_lt}
+use Rattle.std.proofs.lemmas.Bool.{eqb-true, eq-eqb, and_parts, both_ways, or_cases, or_left, or_right, and_from, le-leb}
 use Rattle.std.proofs.lemmas.Bool.Decides.{nat_tests}
 use Rattle.definitions.specs.declared.Sign.{Sign}
 use Rattle.definitions.specs.declared.Corner.{Corner}
@@ -11,8 +11,8 @@ use Rattle.definitions.specs.Stencils.{sign_at, has_plus, kept, facets, is_on_fa
 use Rattle.definitions.specs.Facets.{fill}
 use Rattle.lattice_laws.specs.Ascending.{Has}
 use Rattle.lattice_laws.specs.FiniteTests.{every_case, below}
-use Rattle.lattice_laws.proofs.Booleans.{both_true, not_both, either_true, implied, or_left, or_right, and_true}
-use Rattle.lattice_laws.proofs.Lists.{all_at_member, member_where, test_at_most}
+use Rattle.lattice_laws.proofs.Booleans.{implied}
+use Rattle.lattice_laws.proofs.Lists.{all_at_member, member_where, below_four}
 use Rattle.lattice_laws.proofs.FiniteTests.{case_at, below_at}
 use Rattle.stencil_laws.specs.Cases.{case_pieces, is_node_of, four_signs}
 use Rattle.stencil_laws.specs.Faces.{slot_on_face, face_corner, signs_without, face_triangles}
@@ -76,18 +76,6 @@ unfolding kept facets fill
 all_edges_in_pieces = refl
 
 -- ---- slots of a face
-
--- a fact of each slot
-below_four : (P : ℕ → Type 0) → P 0 → P 1 → P 2 → P 3 → (s : ℕ) → s < 4 → P s
-below_four P a b c d zero h = a
-below_four P a b c d (suc zero) h = b
-below_four P a b c d (suc (suc zero)) h = c
-below_four P a b c d (suc (suc (suc zero))) h = d
-below_four P a b c d (suc (suc (suc (suc s)))) h = absurd (omega arith)
-
-at_most_from_less : {m n : ℕ} → m < n → m ≤ n
-at_most_from_less h = omega arith
-
 to_face_and_back : (f s : ℕ) → f < 4 → s < 4 → (s ≡ f → ⊥) → (slot_from_face f (slot_on_face f s) ≡ s) × (slot_on_face f s < 3)
 to_face_and_back f s hf hs n = (grind (arith, nat_tests), grind (arith, nat_tests))
 
@@ -116,8 +104,8 @@ module _ (x0 x1 x2 x3 y0 y1 y2 y3 : Sign) (μ : ℕ → ℕ) (is_weighted : ℕ 
 
   edge_case : (a b : ℕ) → a ≤ b → b < 4 → is_weighted a ≡ true → is_weighted b ≡ true → ((c : Corner) → Shared is_weighted c → on_two a b c ≡ true) → μ a ≤ μ b → CommonPiece
   edge_case a b le hb ea eb on le' =
-      let ny = test_at_most a b le in
-      let nx = test_at_most (μ a) (μ b) le' in
+      let ny = le-leb a b le in
+      let nx = le-leb (μ a) (μ b) le' in
       let e1 = all_at_member (piece_on_edge (four_signs y0 y1 y2 y3) a b) (case_pieces (four_signs y0 y1 y2 y3)) q (implied (nat_le a b) _ (below_at 4 (λ b. not (nat_le a b) || list_all (piece_on_edge (four_signs y0 y1 y2 y3) a b) (case_pieces (four_signs y0 y1 y2 y3))) (below_at 4 (λ a. below 4 (λ b. not (nat_le a b) || list_all (piece_on_edge (four_signs y0 y1 y2 y3) a b) (case_pieces (four_signs y0 y1 y2 y3)))) (case_at (λ y. below 4 (λ a. below 4 (λ b. not (nat_le a b) || list_all (piece_on_edge y a b) (case_pieces y)))) all_pieces_on_edges y0 y1 y2 y3) a (omega arith)) b hb) ny) iq in
       let e2 = member_where (edge_in_piece (four_signs x0 x1 x2 x3) (μ a) (μ b)) (case_pieces (four_signs x0 x1 x2 x3)) (implied (nat_le (μ a) (μ b)) _ (implied (has_plus (four_signs x0 x1 x2 x3)) _ (below_at 4 (λ j. not (has_plus (four_signs x0 x1 x2 x3)) || (not (nat_le (μ a) j) || list_any (edge_in_piece (four_signs x0 x1 x2 x3) (μ a) j) (case_pieces (four_signs x0 x1 x2 x3)))) (below_at 4 (λ i. below 4 (λ j. not (has_plus (four_signs x0 x1 x2 x3)) || (not (nat_le i j) || list_any (edge_in_piece (four_signs x0 x1 x2 x3) i j) (case_pieces (four_signs x0 x1 x2 x3))))) (case_at (λ x. below 4 (λ i. below 4 (λ j. not (has_plus x) || (not (nat_le i j) || list_any (edge_in_piece x i j) (case_pieces x))))) all_edges_in_pieces x0 x1 x2 x3) (μ a) (into a (omega arith) ea)) (μ b) (into b hb eb)) plus) nx) in (
         e2.0,
@@ -138,8 +126,8 @@ module _ (x0 x1 x2 x3 y0 y1 y2 y3 : Sign) (μ : ℕ → ℕ) (is_weighted : ℕ 
           go false e (inr h) = ap μ (sym (eqb-true s b h))
 
       back : (c : Corner) → on_two a b c ≡ true → renamed (from_edge (μ a) (μ b)) (renamed (to_edge a b) c) ≡ renamed μ c
-      back (Whole s) h = ap Whole (name s (either_true (s == a) (s == b) h))
-      back (Cut s t) h = let g = both_true (s == a) _ h in λ i. Cut (name s (inl g.0) i) (name t (inr g.1) i)
+      back (Whole s) h = ap Whole (name s (or_cases (s == a) (s == b) h))
+      back (Cut s t) h = let g = and_parts (s == a) _ h in λ i. Cut (name s (inl g.0) i) (name t (inr g.1) i)
 
   face_case : (f' f : ℕ) → f' < 4 → f < 4 → is_weighted f' ≡ false → ((s : ℕ) → s < 4 → (s ≡ f' → ⊥) → is_weighted s ≡ true) → μ (slot_from_face f' 0) ≡ slot_from_face f 0 → μ (slot_from_face f' 1) ≡ slot_from_face f 1 → μ (slot_from_face f' 2) ≡ slot_from_face f 2 → CommonPiece
   face_case f' f hf' hf offset on m0 m1 m2 =
@@ -187,7 +175,7 @@ module _ (x0 x1 x2 x3 y0 y1 y2 y3 : Sign) (μ : ℕ → ℕ) (is_weighted : ℕ 
 
       on_face : (c : Corner) → Shared is_weighted c → is_on_face f' c ≡ true
       on_face c (shared_whole a h e) = not_eq a (apart_from a e)
-      on_face c (shared_cut a b lt h ea eb) = and_true _ _ (not_eq a (apart_from a ea)) (not_eq b (apart_from b eb))
+      on_face c (shared_cut a b lt h ea eb) = and_from _ _ (not_eq a (apart_from a ea)) (not_eq b (apart_from b eb))
 
       column : (s : ℕ) → s < 4 → is_weighted s ≡ true → slot_from_face f (slot_on_face f' s) ≡ μ s
       column s h e = let d = to_face_and_back f' s hf' h (apart_from s e) in sym (third (slot_on_face f' s) d.1) ∙ ap μ d.0
@@ -205,7 +193,7 @@ module _ (x0 x1 x2 x3 y0 y1 y2 y3 : Sign) (μ : ℕ → ℕ) (is_weighted : ℕ 
   only a b le h c (shared_cut s t lt ht es et) = go (h s (omega arith) es) (h t ht et)
     where
       go : (s ≡ a) ⊎ (s ≡ b) → (t ≡ a) ⊎ (t ≡ b) → (s == a && t == b) ≡ true
-      go (inl f) (inr g) = and_true (s == a) (t == b) (eq-eqb s a f) (eq-eqb t b g)
+      go (inl f) (inr g) = and_from (s == a) (t == b) (eq-eqb s a f) (eq-eqb t b g)
       go (inl f) (inl g) = absurd (omega arith)
       go (inr f) (inr g) = absurd (omega arith)
       go (inr f) (inl g) = absurd (omega arith)
@@ -252,22 +240,22 @@ module _ (x0 x1 x2 x3 y0 y1 y2 y3 : Sign) (μ : ℕ → ℕ) (is_weighted : ℕ 
   choose = go (is_weighted 0) (is_weighted 1) (is_weighted 2) (is_weighted 3) refl refl refl refl
     where
       none_here : (s : ℕ) {A : Type 0} → is_weighted s ≡ false → is_weighted s ≡ true → A
-      none_here s e f = absurd (not_both (is_weighted s) f e)
+      none_here s e f = absurd (both_ways (is_weighted s) e f)
 
       go : (a b c d : Bool) → is_weighted 0 ≡ a → is_weighted 1 ≡ b → is_weighted 2 ≡ c → is_weighted 3 ≡ d → CommonPiece
       go true true true true e0 e1 e2 e3 = full_case (below_four (λ s. is_weighted s ≡ true) e0 e1 e2 e3)
       go true true true false e0 e1 e2 e3 = three_case 3 (omega arith) e3 (below_four (λ s. (s ≡ 3 → ⊥) → is_weighted s ≡ true) (λ n. e0) (λ n. e1) (λ n. e2) (λ n. absurd (n refl))) (omega arith) (omega arith) (omega arith) (λ e. omega arith) (λ e. omega arith) (λ e. omega arith)
       go true true false true e0 e1 e2 e3 = three_case 2 (omega arith) e2 (below_four (λ s. (s ≡ 2 → ⊥) → is_weighted s ≡ true) (λ n. e0) (λ n. e1) (λ n. absurd (n refl)) (λ n. e3)) (omega arith) (omega arith) (omega arith) (λ e. omega arith) (λ e. omega arith) (λ e. omega arith)
-      go true true false false e0 e1 e2 e3 = edge_case 0 1 (omega arith) (omega arith) e0 e1 (only 0 1 (omega arith) (below_four (λ s. is_weighted s ≡ true → (s ≡ 0) ⊎ (s ≡ 1)) (λ e. inl refl) (λ e. inr refl) (none_here 2 e2) (none_here 3 e3))) (at_most_from_less (rising 0 1 (omega arith) (omega arith) e0 e1))
+      go true true false false e0 e1 e2 e3 = edge_case 0 1 (omega arith) (omega arith) e0 e1 (only 0 1 (omega arith) (below_four (λ s. is_weighted s ≡ true → (s ≡ 0) ⊎ (s ≡ 1)) (λ e. inl refl) (λ e. inr refl) (none_here 2 e2) (none_here 3 e3))) (le_of_lt (rising 0 1 (omega arith) (omega arith) e0 e1))
       go true false true true e0 e1 e2 e3 = three_case 1 (omega arith) e1 (below_four (λ s. (s ≡ 1 → ⊥) → is_weighted s ≡ true) (λ n. e0) (λ n. absurd (n refl)) (λ n. e2) (λ n. e3)) (omega arith) (omega arith) (omega arith) (λ e. omega arith) (λ e. omega arith) (λ e. omega arith)
-      go true false true false e0 e1 e2 e3 = edge_case 0 2 (omega arith) (omega arith) e0 e2 (only 0 2 (omega arith) (below_four (λ s. is_weighted s ≡ true → (s ≡ 0) ⊎ (s ≡ 2)) (λ e. inl refl) (none_here 1 e1) (λ e. inr refl) (none_here 3 e3))) (at_most_from_less (rising 0 2 (omega arith) (omega arith) e0 e2))
-      go true false false true e0 e1 e2 e3 = edge_case 0 3 (omega arith) (omega arith) e0 e3 (only 0 3 (omega arith) (below_four (λ s. is_weighted s ≡ true → (s ≡ 0) ⊎ (s ≡ 3)) (λ e. inl refl) (none_here 1 e1) (none_here 2 e2) (λ e. inr refl))) (at_most_from_less (rising 0 3 (omega arith) (omega arith) e0 e3))
+      go true false true false e0 e1 e2 e3 = edge_case 0 2 (omega arith) (omega arith) e0 e2 (only 0 2 (omega arith) (below_four (λ s. is_weighted s ≡ true → (s ≡ 0) ⊎ (s ≡ 2)) (λ e. inl refl) (none_here 1 e1) (λ e. inr refl) (none_here 3 e3))) (le_of_lt (rising 0 2 (omega arith) (omega arith) e0 e2))
+      go true false false true e0 e1 e2 e3 = edge_case 0 3 (omega arith) (omega arith) e0 e3 (only 0 3 (omega arith) (below_four (λ s. is_weighted s ≡ true → (s ≡ 0) ⊎ (s ≡ 3)) (λ e. inl refl) (none_here 1 e1) (none_here 2 e2) (λ e. inr refl))) (le_of_lt (rising 0 3 (omega arith) (omega arith) e0 e3))
       go true false false false e0 e1 e2 e3 = edge_case 0 0 (omega arith) (omega arith) e0 e0 (only 0 0 (omega arith) (below_four (λ s. is_weighted s ≡ true → (s ≡ 0) ⊎ (s ≡ 0)) (λ e. inl refl) (none_here 1 e1) (none_here 2 e2) (none_here 3 e3))) (omega arith)
       go false true true true e0 e1 e2 e3 = three_case 0 (omega arith) e0 (below_four (λ s. (s ≡ 0 → ⊥) → is_weighted s ≡ true) (λ n. absurd (n refl)) (λ n. e1) (λ n. e2) (λ n. e3)) (omega arith) (omega arith) (omega arith) (λ e. omega arith) (λ e. omega arith) (λ e. omega arith)
-      go false true true false e0 e1 e2 e3 = edge_case 1 2 (omega arith) (omega arith) e1 e2 (only 1 2 (omega arith) (below_four (λ s. is_weighted s ≡ true → (s ≡ 1) ⊎ (s ≡ 2)) (none_here 0 e0) (λ e. inl refl) (λ e. inr refl) (none_here 3 e3))) (at_most_from_less (rising 1 2 (omega arith) (omega arith) e1 e2))
-      go false true false true e0 e1 e2 e3 = edge_case 1 3 (omega arith) (omega arith) e1 e3 (only 1 3 (omega arith) (below_four (λ s. is_weighted s ≡ true → (s ≡ 1) ⊎ (s ≡ 3)) (none_here 0 e0) (λ e. inl refl) (none_here 2 e2) (λ e. inr refl))) (at_most_from_less (rising 1 3 (omega arith) (omega arith) e1 e3))
+      go false true true false e0 e1 e2 e3 = edge_case 1 2 (omega arith) (omega arith) e1 e2 (only 1 2 (omega arith) (below_four (λ s. is_weighted s ≡ true → (s ≡ 1) ⊎ (s ≡ 2)) (none_here 0 e0) (λ e. inl refl) (λ e. inr refl) (none_here 3 e3))) (le_of_lt (rising 1 2 (omega arith) (omega arith) e1 e2))
+      go false true false true e0 e1 e2 e3 = edge_case 1 3 (omega arith) (omega arith) e1 e3 (only 1 3 (omega arith) (below_four (λ s. is_weighted s ≡ true → (s ≡ 1) ⊎ (s ≡ 3)) (none_here 0 e0) (λ e. inl refl) (none_here 2 e2) (λ e. inr refl))) (le_of_lt (rising 1 3 (omega arith) (omega arith) e1 e3))
       go false true false false e0 e1 e2 e3 = edge_case 1 1 (omega arith) (omega arith) e1 e1 (only 1 1 (omega arith) (below_four (λ s. is_weighted s ≡ true → (s ≡ 1) ⊎ (s ≡ 1)) (none_here 0 e0) (λ e. inl refl) (none_here 2 e2) (none_here 3 e3))) (omega arith)
-      go false false true true e0 e1 e2 e3 = edge_case 2 3 (omega arith) (omega arith) e2 e3 (only 2 3 (omega arith) (below_four (λ s. is_weighted s ≡ true → (s ≡ 2) ⊎ (s ≡ 3)) (none_here 0 e0) (none_here 1 e1) (λ e. inl refl) (λ e. inr refl))) (at_most_from_less (rising 2 3 (omega arith) (omega arith) e2 e3))
+      go false false true true e0 e1 e2 e3 = edge_case 2 3 (omega arith) (omega arith) e2 e3 (only 2 3 (omega arith) (below_four (λ s. is_weighted s ≡ true → (s ≡ 2) ⊎ (s ≡ 3)) (none_here 0 e0) (none_here 1 e1) (λ e. inl refl) (λ e. inr refl))) (le_of_lt (rising 2 3 (omega arith) (omega arith) e2 e3))
       go false false true false e0 e1 e2 e3 = edge_case 2 2 (omega arith) (omega arith) e2 e2 (only 2 2 (omega arith) (below_four (λ s. is_weighted s ≡ true → (s ≡ 2) ⊎ (s ≡ 2)) (none_here 0 e0) (none_here 1 e1) (λ e. inl refl) (none_here 3 e3))) (omega arith)
       go false false false true e0 e1 e2 e3 = edge_case 3 3 (omega arith) (omega arith) e3 e3 (only 3 3 (omega arith) (below_four (λ s. is_weighted s ≡ true → (s ≡ 3) ⊎ (s ≡ 3)) (none_here 0 e0) (none_here 1 e1) (none_here 2 e2) (λ e. inl refl))) (omega arith)
       go false false false false e0 e1 e2 e3 = none_case (below_four (λ s. is_weighted s ≡ true → ⊥) (none_here 0 e0) (none_here 1 e1) (none_here 2 e2) (none_here 3 e3))

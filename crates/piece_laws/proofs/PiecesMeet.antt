@@ -4,7 +4,7 @@ use Rattle.std.specs.List.{list_all}
 use Rattle.std.proofs.Common.{refl, sym, ap, subst, ◌∙◌, arith, inl, inr, ◌⊎◌}
 use Rattle.std.proofs.Math.IntN.{ℤ, pos, negsuc, ◌+ℤ◌, ◌*ℤ◌, neg_ℤ, nat_abs}
 use Rattle.std.proofs.lemmas.Int.{ints}
-use Rattle.std.proofs.lemmas.Bool.{eqb-true, eq-eqb, ltb-true}
+use Rattle.std.proofs.lemmas.Bool.{eqb-true, eq-eqb, ltb-true, and_parts, or_right}
 use lib.Signed.{◌<ℤ◌, ◌≤ℤ◌}
 use borrow.Author.Differences.{at_most_in, below_in}
 use Rattle.definitions.specs.declared.Sign.{Sign}
@@ -18,7 +18,6 @@ use Rattle.lattice_laws.specs.Ascending.{Has}
 use Rattle.lattice_laws.specs.FiniteTests.{every_case}
 use Rattle.lattice_laws.specs.Vectors.{Vector}
 use Rattle.lattice_laws.specs.Kinds.{Kind, Slot, slot_of, number_of_slot}
-use Rattle.lattice_laws.proofs.Booleans.{both_true, or_right}
 use Rattle.lattice_laws.proofs.Lists.{all_at_member}
 use Rattle.lattice_laws.proofs.FiniteTests.{case_at}
 use Rattle.moved_lattice.specs.WeightedSums.{total_weight, AreSmall, IsLattice, vertex_of, Matches, has_none, same_vertex, moved_place}
@@ -46,7 +45,7 @@ in_slots (Cut a b) = nat_lt a b && nat_lt b 4
 
 pub proper_from_test : (c : Corner) → in_slots c ≡ true → IsProper c
 proper_from_test (Whole a) e = proper_whole a (ltb-true _ _ e)
-proper_from_test (Cut a b) e = let f = both_true (nat_lt a b) _ e in proper_cut a b (ltb-true _ _ f.0) (ltb-true _ _ f.1)
+proper_from_test (Cut a b) e = let f = and_parts (nat_lt a b) _ e in proper_cut a b (ltb-true _ _ f.0) (ltb-true _ _ f.1)
 
 all_pieces_proper : every_case (λ x. list_all (list_all in_slots) (case_pieces x)) ≡ true
 unfolding kept facets fill
@@ -58,7 +57,7 @@ AreProper (c ∷ l) = IsProper c × AreProper l
 
 all_proper : (l : List Corner) → list_all in_slots l ≡ true → AreProper l
 all_proper [] e = tt
-all_proper (c ∷ l) e = let f = both_true (in_slots c) _ e in (proper_from_test c f.0, all_proper l f.1)
+all_proper (c ∷ l) e = let f = and_parts (in_slots c) _ e in (proper_from_test c f.0, all_proper l f.1)
 
 piece_is_proper : (a b c d : Sign) (q : List Corner) → Has q (case_pieces (four_signs a b c d)) → AreProper q
 piece_is_proper a b c d q i = all_proper q (all_at_member (list_all in_slots) (case_pieces (four_signs a b c d)) q (case_at (λ x. list_all (list_all in_slots) (case_pieces x)) all_pieces_proper a b c d) i)

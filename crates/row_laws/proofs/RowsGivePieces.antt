@@ -1,11 +1,12 @@
 -- The pieces of a lattice tetrahedron are those of the row of its signs, cut by the order of keys.
-use Rattle.std.proofs.Common.{◌≡◌, ℕ, ◌<◌, Bool, true, false, ◌&&◌, nat_lt, nat_eq, if◌then◌else◌, List, [], ◌∷◌, length, map, refl, sym, ap, ◌∙◌}
+use Rattle.std.proofs.Common.{◌≡◌, ℕ, ◌<◌, Bool, true, ◌&&◌, nat_lt, nat_eq, if◌then◌else◌, List, [], ◌∷◌, length, map, refl, sym, ap, ◌∙◌}
 use Rattle.std.specs.Prelude.{slice_index, slice_index_or}
 use Rattle.std.specs.List.{list_all, range_with_len}
-use Rattle.std.proofs.lemmas.Bool.{ltb-true}
+use Rattle.std.proofs.lemmas.Bool.{ltb-true, and_parts}
 use Rattle.std.proofs.lemmas.List.{get_or-map}
 use Rattle.std.proofs.lemmas.List.Sums.{AllPass-from_list_all}
 use Rattle.std.proofs.lemmas.Simd.{map-map}
+use Rattle.quad_split.proofs.AgreedOrder.{agreed_at}
 use Rattle.definitions.specs.declared.Sign.{Sign}
 use Rattle.definitions.specs.declared.Corner.{Corner}
 use Rattle.definitions.specs.declared.Corner.TheVariants.{Whole}
@@ -15,13 +16,12 @@ use Rattle.definitions.specs.Stencils.{same_corner, kept, facets}
 use Rattle.definitions.specs.Pieces.{corner_key, oriented}
 use Rattle.lattice_laws.specs.FiniteTests.{every_case}
 use Rattle.lattice_laws.specs.NumberedTetrahedra.{is_corner, rank, KeysAscend}
-use Rattle.lattice_laws.proofs.Booleans.{both_true}
 use Rattle.lattice_laws.proofs.FiniteTests.{each_case}
 use Rattle.lattice_laws.proofs.KeyOrder.{keys_ascend, pieces_by_table}
 use Rattle.corner_table.specs.declared.Shape.{Shape}
 use Rattle.corner_table.specs.declared.Shape.TheVariants.{Nothing, Tetra, Pyramid, Prism}
 use Rattle.corner_table.specs.Rows.{row_corners, row_by_signs, solid_at}
-use Rattle.stencils.proofs.Corners.{same_pieces, pieces_from_same}
+use Rattle.lattice_laws.proofs.SamePieces.{same_pieces, pieces_from_same}
 use Rattle.row_laws.specs.RowPieces.{split, nodes_at, RowsGivePieces}
 
 -- the same cut by any order of positions
@@ -45,18 +45,13 @@ abbrev by_rank : List Corner → List ℕ → ℕ → ℕ → Bool
 by_rank nodes keys p q =
     if nat_lt p (length nodes) && nat_lt q (length nodes) then nat_lt (rank (node nodes p)) (rank (node nodes q)) else nat_lt (slice_index keys p) (slice_index keys q)
 
-if_so : (x y l r : Bool) → (x ≡ true → y ≡ true → l ≡ r) → l ≡ (if x && y then r else l)
-if_so true true l r h = h refl refl
-if_so true false l r h = refl
-if_so false y l r h = refl
-
 corner_at : (nodes : List Corner) → list_all is_corner nodes ≡ true → (p : ℕ) → p < length nodes → is_corner (node nodes p) ≡ true
 corner_at nodes all p lt = AllPass-from_list_all is_corner nodes all p (Whole 4) lt
 
 module _ (key : Corner → ℕ) (up : KeysAscend key) (nodes : List Corner) (all : list_all is_corner nodes ≡ true) where
   order_by_rank : (p q : ℕ) → nat_lt (slice_index (map key nodes) p) (slice_index (map key nodes) q) ≡ by_rank nodes (map key nodes) p q
   order_by_rank p q =
-      if_so (nat_lt p (length nodes)) (nat_lt q (length nodes)) _ _
+      agreed_at (nat_lt p (length nodes)) (nat_lt q (length nodes)) _ _
       (λ a b.
       let lp = ltb-true _ _ a in let lq = ltb-true _ _ b in
       (λ i. nat_lt (get_or-map key nodes p (Whole 4) 0 lp i) (get_or-map key nodes q (Whole 4) 0 lq i))
@@ -78,7 +73,7 @@ rows_give_pieces tet ids signs h len =
     let row = row_by_signs signs in
     let nodes = row_corners row in
     let keys = map key nodes in
-    let f = both_true (list_all is_corner nodes) _ (each_case (fits keys) (all_fit keys) signs len) in
+    let f = and_parts (list_all is_corner nodes) _ (each_case (fits keys) (all_fit keys) signs len) in
     let order = order_by_rank key (keys_ascend tet ids h) nodes f.0 in
     let filled : map (nodes_at row) (split row.shape keys) ≡ fill same_corner (facets signs) (kept signs) =
     ap (map (nodes_at row)) (split_by_keys row.shape keys ∙ (λ i. split_by (λ p q. order p q i) row.shape)) ∙ pieces_from_same _ _ f.1 in

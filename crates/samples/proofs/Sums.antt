@@ -1,21 +1,12 @@
 -- Sums over lists that are made of others, and over all vertices of the lattice by layers, rows and places in a row.
-use Rattle.std.proofs.Common.{◌≡◌, ℕ, zero, suc, ◌+◌, ◌-◌, ◌*◌, ◌%◌, ◌≤◌, List, [], ◌∷◌, map, refl, sym, ap, ◌∙◌, arith, add_assoc}
-use Rattle.std.specs.Prelude.{flat_map, sum_by}
+use Rattle.std.proofs.Common.{◌≡◌, ℕ, zero, suc, ◌+◌, ◌-◌, ◌*◌, ◌%◌, ◌≤◌, [], map, sym, ap, ◌∙◌, arith, add_assoc}
+use Rattle.std.specs.Prelude.{sum_by}
 use Rattle.std.specs.List.{range_with_len}
-use Rattle.std.proofs.lemmas.List.Sums.{sum_by-cons, sum_by-append}
+use Rattle.std.proofs.lemmas.List.Sums.{sum_by-cons}
+use Rattle.list_words.proofs.Sums.{sum_by-map, sum_by-flat_map}
 use Rattle.definitions.specs.declared.Dims.{Dims}
 use Rattle.definitions.specs.declared.Vertex.{Vertex}
 use Rattle.definitions.specs.Lattice.{vertex, vertices, layer, layers, axis}
-
--- over a list of what a function gives, and over joined lists
-pub sum_by-map : {X Y : Type 0} (q : Y → ℕ) (f : X → Y) (xs : List X) → sum_by q (map f xs) ≡ sum_by (λ x. q (f x)) xs
-sum_by-map q f [] = refl
-sum_by-map q f (x ∷ xs) = sum_by-cons q (f x) (map f xs) ∙ ap (λ n. q (f x) + n) (sum_by-map q f xs) ∙ sym (sum_by-cons (λ x. q (f x)) x xs)
-
-pub sum_by-flat_map : {X Y : Type 0} (q : Y → ℕ) (f : X → List Y) (xs : List X) → sum_by q (flat_map f xs) ≡ sum_by (λ x. sum_by q (f x)) xs
-sum_by-flat_map q f [] = refl
-sum_by-flat_map q f (x ∷ xs) =
-    sum_by-append q (f x) (flat_map f xs) ∙ ap (λ n. sum_by q (f x) + n) (sum_by-flat_map q f xs) ∙ sym (sum_by-cons (λ x. sum_by q (f x)) x xs)
 
 -- over one more number
 pub sum_by-range_more : (f : ℕ → ℕ) (a n : ℕ) → sum_by f (range_with_len a (suc n)) ≡ sum_by f (range_with_len a n) + f (a + n)

@@ -1,12 +1,9 @@
 -- What it says of a list that it is each number below a bound, once.
-use Rattle.std.proofs.Common.{◌≡◌, ℕ, suc, ◌<◌, ◌==◌, List, [], ◌∷◌, get_or, All, Contains, Bool, true, false, true≢false, if◌then◌else◌, refl, arith}
+use Rattle.std.proofs.Common.{◌≡◌, ℕ, suc, ◌<◌, ◌==◌, List, [], ◌∷◌, get_or, All, Contains, Bool, true, false, if◌then◌else◌, refl, arith}
 use Rattle.std.proofs.lemmas.Bool.Decides.{nat_tests}
 use Rattle.std.proofs.lemmas.List.Sums.{sum_by-cons, get_or-le-sum_by}
 use Rattle.list_words.specs.Words.{times, EachOnce}
-
-when_false : (b : Bool) (m n : ℕ) → b ≡ false → (if b then m else n) ≡ n
-when_false true m n e = absurd (true≢false e)
-when_false false m n e = refl
+use Rattle.list_words.proofs.Tests.{when_false}
 
 -- a number that stands in the list at least once is in it
 pub Contains-from_times : (x : ℕ) (xs : List ℕ) → 0 < times x xs → Contains xs x

@@ -9,8 +9,9 @@ use Rattle.atomic_table.specs.Table.{Me, Step, keeps, Allows, Splits, Joins, Fin
 use Rattle.atomic_table.proofs.Lists.{set_else}
 use Rattle.slab_claims.specs.declared.rule.View.{View}
 use Rattle.list_words.specs.Words.{times, EachOnce}
+use Rattle.list_words.proofs.Lists.{times_append}
 use Rattle.slab_claims.specs.Rule.{all_drawn, done_share, Fits, FitTogether, KeepsRule, after_draw, Draws, one_less, one_share, joint, spent}
-use Rattle.slab_claims.proofs.Totals.{All-at, sum_by-set_at, times-append, times-push, times-flat_map-set, times-flat_map_push, times-flat_map_none, times-le-flat_map}
+use Rattle.slab_claims.proofs.Totals.{All-at, sum_by-set_at, times-push, times-flat_map-set, times-flat_map_push, times-flat_map_none, times-le-flat_map}
 
 drawn-set : (x : ℕ) (views : List View) (id : ℕ) (v w : View) → get_elem? views id ≡ some v → times x (all_drawn (set views id w)) + times x v.drawn ≡ times x (all_drawn views) + times x w.drawn
 drawn-set x views id v w at = times-flat_map-set (λ (u : View). u.drawn) x views id v w at
@@ -166,7 +167,7 @@ module _ (slabs seats next : ℕ) (views : List View) (id : ℕ) (v : View) (fit
         once = λ x.
             let a = drawn-set x half other w spent still in
             let t = drawn-set x views id v b at in
-            let m = times-append x v.drawn w.drawn in
+            let m = times_append x v.drawn w.drawn in
             let same : times x (all_drawn (set half other spent)) ≡ times x (all_drawn views) = omega arith in
             same ∙ fit.once x;
         shares = let a = share-set half other w spent still in let t = share-set views id v b at in let s = fit.shares in omega arith;

@@ -1,12 +1,11 @@
 -- Sums over the views of all seats, and how often a number stands in their lists.
 use Rattle.std.proofs.Common.{◌≡◌, ℕ, zero, suc, ◌+◌, ◌<◌, ◌≤◌, ◌==◌, List, [], ◌∷◌, ◌++◌, length, set, get_or, All, sum_by, flat_map, if◌then◌else◌, refl, sym, ap, subst, arith}
-use Rattle.std.proofs.lemmas.List.Sums.{sum_by-cons, sum_by-append, sum_by-set, sum_by_push, get_or-le-sum_by}
+use Rattle.std.proofs.lemmas.List.Sums.{sum_by-set, sum_by_push, get_or-le-sum_by}
 use mathlib.Core.Option.{some, some-ne-none, some-injective}
 use lib.ListN.{get_elem?}
 use Rattle.list_words.specs.Words.{times}
-
-pub times-append : (x : ℕ) (xs ys : List ℕ) → times x (xs ++ ys) ≡ times x xs + times x ys
-times-append x xs ys = sum_by-append (λ y. if y == x then 1 else 0) xs ys
+use Rattle.list_words.proofs.Lists.{times_append}
+use Rattle.list_words.proofs.Sums.{times-flat_map}
 
 pub times-push : (x : ℕ) (xs : List ℕ) (y : ℕ) → times x (xs ++ y ∷ []) ≡ times x xs + (if y == x then 1 else 0)
 times-push x xs y = sum_by_push (λ z. if z == x then 1 else 0) xs y
@@ -33,14 +32,6 @@ module _ {A : Type 0} where
       omega arith
 
   -- what all lists have together
-  times-flat_map : (f : A → List ℕ) (x : ℕ) (vs : List A) → times x (flat_map f vs) ≡ sum_by (λ v. times x (f v)) vs
-  times-flat_map f x [] = refl
-  times-flat_map f x (v ∷ vs) =
-      let a = times-append x (f v) (flat_map f vs) in
-      let c = sum_by-cons (λ u. times x (f u)) v vs in
-      let h = times-flat_map f x vs in
-      omega arith
-
   pub times-flat_map-set : (f : A → List ℕ) (x : ℕ) (vs : List A) (i : ℕ) (v w : A) → get_elem? vs i ≡ some v → times x (flat_map f (set vs i w)) + times x (f v) ≡ times x (flat_map f vs) + times x (f w)
   times-flat_map-set f x vs i v w e =
       let before = times-flat_map f x vs in
@@ -66,7 +57,7 @@ module _ {A : Type 0} where
   pub times-flat_map_none : (f : A → List ℕ) (x : ℕ) (vs : List A) → All (λ v. f v ≡ []) vs → times x (flat_map f vs) ≡ 0
   times-flat_map_none f x [] none = refl
   times-flat_map_none f x (v ∷ vs) none =
-      let a = times-append x (f v) (flat_map f vs) in
+      let a = times_append x (f v) (flat_map f vs) in
       let here : times x (f v) ≡ 0 = ap (times x) (none 0 v (omega arith)) in
       let h = times-flat_map_none f x vs (λ k d lt. none (suc k) d (omega arith)) in
       omega arith

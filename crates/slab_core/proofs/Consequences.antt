@@ -5,12 +5,13 @@ use Rattle.std.specs.List.{sum_by, list_any}
 use Rattle.std.proofs.lemmas.Bool.Decides.{nat_tests}
 use Rattle.std.proofs.lemmas.List.Sums.{sum_by-cons, get_or-le-sum_by}
 use Rattle.std.proofs.lemmas.List.Elements.{All-head, All-tail, All-weaker}
+use Rattle.std.proofs.lemmas.Bool.{and_parts, cases_Bool}
+use Rattle.std.proofs.lemmas.List.Concat.{length-flat_map}
 use Rattle.definitions.specs.Lattice.{layers}
 use Rattle.definitions.specs.Layout.{reach_from, reach_to, is_in_reach}
 use Rattle.list_words.specs.Words.{has, times, once_below, EachOnce}
-use Rattle.list_words.proofs.Tests.{and_true, true_or_false}
 use Rattle.list_words.proofs.Lists.{has_times, times_has, has_among}
-use Rattle.list_words.proofs.Sums.{times-flat_map, length-flat_map_sum, sum-flat_map, sum_below, sum_once, without_run, run_once, run_length, outside_run}
+use Rattle.list_words.proofs.Sums.{times-flat_map, sum_below, sum_once, without_run, run_once, run_length, outside_run, sum_by-flat_map, sums_agree}
 use Rattle.slab_core.specs.States.{WorkerState, CoreState, new_worker}
 use Rattle.slab_core.specs.Steps.{slab_count, slabs_done, reach_words}
 use Rattle.slab_core.specs.Sound.{all_drawn, IsSoundWorker, IsSound}
@@ -23,15 +24,6 @@ sums_rise f g (x ∷ xs) all =
     let b = sum_by-cons g x xs in
     let h = All-head (λ x. f x ≤ g x) x xs all in
     let t = sums_rise f g xs (All-tail (λ x. f x ≤ g x) x xs all) in
-    omega arith
-
-pub sums_same : {X : Type 0} (f g : X → ℕ) (xs : List X) → All (λ x. f x ≡ g x) xs → sum_by f xs ≡ sum_by g xs
-sums_same f g [] all = refl
-sums_same f g (x ∷ xs) all =
-    let a = sum_by-cons f x xs in
-    let b = sum_by-cons g x xs in
-    let h = All-head (λ x. f x ≡ g x) x xs all in
-    let t = sums_same f g xs (All-tail (λ x. f x ≡ g x) x xs all) in
     omega arith
 
 -- how many layers the reach of slab j has
@@ -58,7 +50,7 @@ made_few s (j ∷ js) made once reached =
       where
         by_test : (b : Bool) → is_in_reach s.dims s.slab j h ≡ b → (b || list_any (λ i. is_in_reach s.dims s.slab i h) js) ≡ true → (reach_from s.slab j ≤ h → h < reach_from s.slab j + reach_len s j → ⊥) → list_any (λ i. is_in_reach s.dims s.slab i h) js ≡ true
         by_test true is q out =
-            let p = and_true (nat_le (reach_from s.slab j) h) (nat_lt h (reach_to s.dims s.slab j)) is in
+            let p = and_parts (nat_le (reach_from s.slab j) h) (nat_lt h (reach_to s.dims s.slab j)) is in
             let lo : reach_from s.slab j ≤ h = at_most (reach_from s.slab j) h p.0 in
             let hi : h < reach_to s.dims s.slab j = below (reach_to s.dims s.slab j) h p.1 in
             absurd (out lo (inside (reach_from s.slab j) (reach_to s.dims s.slab j) h lo hi))
@@ -75,7 +67,7 @@ made_few s (j ∷ js) made once reached =
 
 -- what a worker made is at most the reaches of the slabs that it drew
 worker_made_few : (s : CoreState) (k : WorkerState) → IsSoundWorker s k → length k.made ≤ sum_by (reach_len s) k.drawn
-worker_made_few s k f = made_few s k.drawn k.made (λ x. ⊎_elim (λ (t : has x k.made ≡ true). let o = (f.made x t).once in omega arith) (λ (n : has x k.made ≡ false). let z = times_has x k.made n in omega arith) (true_or_false (has x k.made))) (λ h e. (f.made h e).reached)
+worker_made_few s k f = made_few s k.drawn k.made (λ x. ⊎_elim (λ (t : has x k.made ≡ true). let o = (f.made x t).once in omega arith) (λ (n : has x k.made ≡ false). let z = times_has x k.made n in omega arith) (cases_Bool (has x k.made))) (λ h e. (f.made h e).reached)
 
 -- the reaches of the first slabs together
 reaches_bound : (s : CoreState) (n : ℕ) → 1 ≤ s.slab → sum_below (reach_len s) (suc n) ≤ min (2 * s.slab * (n + 1) + 2) (layers s.dims) + 4 * n
@@ -103,9 +95,9 @@ all_reaches s (suc n) some = let b = reaches_bound s n some in omega arith
 
 pub few_made : (s : CoreState) → IsSound s → FewMade s
 few_made s k =
-    let a = length-flat_map_sum (λ (v : WorkerState). v.made) s.workers in
+    let a = length-flat_map (λ (v : WorkerState). v.made) s.workers in
     let b = sums_rise (λ (v : WorkerState). length v.made) (λ (v : WorkerState). sum_by (reach_len s) v.drawn) s.workers (All-weaker (IsSoundWorker s) (λ (v : WorkerState). length v.made ≤ sum_by (reach_len s) v.drawn) (worker_made_few s) s.workers k.each) in
-    let c = sum-flat_map (reach_len s) (λ (v : WorkerState). v.drawn) s.workers in
+    let c = sum_by-flat_map (reach_len s) (λ (v : WorkerState). v.drawn) s.workers in
     let d = sum_once (reach_len s) (min s.next (slab_count s)) (all_drawn s) k.drawn_once in
     let e = sum_below_rises (reach_len s) (min s.next (slab_count s)) (slab_count s) (omega arith) in
     let f = all_reaches s (slab_count s) k.shaped.layout.low in
@@ -129,10 +121,10 @@ same_times s k j f gone le = ⊎_elim
     let z = times_has j k.drawn n in
     let y = times_has j (slabs_done k) (undone n) in
     omega arith)
-    (true_or_false (has j k.drawn))
+    (cases_Bool (has j k.drawn))
   where
     undone : has j k.drawn ≡ false → has j (slabs_done k) ≡ false
-    undone n = ⊎_elim (λ (t : has j (slabs_done k) ≡ true). absurd (true≢false (sym (f.done_once j t).0 ∙ n))) (λ (u : has j (slabs_done k) ≡ false). u) (true_or_false (has j (slabs_done k)))
+    undone n = ⊎_elim (λ (t : has j (slabs_done k) ≡ true). absurd (true≢false (sym (f.done_once j t).0 ∙ n))) (λ (u : has j (slabs_done k) ≡ false). u) (cases_Bool (has j (slabs_done k)))
 
 once_at_most : (x n : ℕ) → once_below x n ≤ 1
 once_at_most x n = by_test (nat_lt x n)
@@ -144,7 +136,7 @@ once_at_most x n = by_test (nat_lt x n)
 each_done : (s : CoreState) → IsSound s → AllGone s → EachOnce (slab_count s) (all_done s)
 each_done s k gone j =
     let a = times-flat_map slabs_done j s.workers in
-    let b = sums_same (λ (v : WorkerState). times j (slabs_done v)) (λ (v : WorkerState). times j v.drawn) s.workers same in
+    let b = sums_agree (λ (v : WorkerState). times j (slabs_done v)) (λ (v : WorkerState). times j v.drawn) s.workers same in
     let c = times-flat_map (λ (v : WorkerState). v.drawn) j s.workers in
     let past : slab_count s < s.next = (k.each 0 new_worker k.shaped.some).out ((k.each 0 new_worker k.shaped.some).gone (gone 0 new_worker k.shaped.some)).0 in
     let m : min s.next (slab_count s) ≡ slab_count s = omega arith in

@@ -5,11 +5,12 @@ use Rattle.std.specs.List.{list_any}
 use Rattle.std.proofs.lemmas.Bool.Decides.{nat_tests}
 use Rattle.std.proofs.lemmas.List.{get_or-set_same, get_or-set_other, length-set, map_push}
 use Rattle.std.proofs.lemmas.List.Elements.{All-push}
+use Rattle.std.proofs.lemmas.Bool.{and_parts, not-true, both_ways, false_from_ne_true, cases_eq}
 use Rattle.definitions.specs.Lattice.{vertices, vertex_at, layers}
 use Rattle.definitions.specs.Layout.{layer_start, layer_len, layer_ids, reach, reach_from, reach_to, is_in_reach}
 use Rattle.list_words.specs.Words.{has, has_all, times, joined, without, once_below}
-use Rattle.list_words.proofs.Tests.{and_true, not_true, clash, not_so, when_true, when_false}
-use Rattle.list_words.proofs.Lists.{same_or_other, has_more, has_pushed, has_joined, has_kept, has_new, has_without, has_among, has_range, times_append, times_new, times_other, times_one, times_none, same_part}
+use Rattle.list_words.proofs.Tests.{when_true, when_false}
+use Rattle.list_words.proofs.Lists.{has_more, has_pushed, has_joined, has_kept, has_new, has_without, has_among, has_range, times_append, times_new, times_other, times_one, times_none, same_part}
 use Rattle.slab_core.specs.declared.event.Event.{Event}
 use Rattle.slab_core.specs.declared.event.Event.TheVariants.{Claim, Look, Put, Raise, Read, Finish, Quit}
 use Rattle.slab_core.specs.States.{WorkerState, CoreState}
@@ -30,10 +31,10 @@ look_fits s k h ws below f true up = record {
   seen = λ g e. ⊎_elim (λ (same : g ≡ h). subst (λ (j : ℕ). (j < layers s.dims) × (is_up s j ≡ true)) (sym same) (below, up)) (λ (old : has g k.seen ≡ true). f.seen g old) (has_joined g h k.seen e);
   down = λ g e.
       let d = has_without g h k.down e in
-      not_so (has g (joined h k.seen)) (λ t. ⊎_elim (λ (same : g ≡ h). d.0 same) (λ (old : has g k.seen ≡ true). clash (has g k.seen) old (f.down g d.1)) (has_joined g h k.seen t));
+      false_from_ne_true (has g (joined h k.seen)) (λ t. ⊎_elim (λ (same : g ≡ h). d.0 same) (λ (old : has g k.seen ≡ true). both_ways (has g k.seen) (f.down g d.1) old) (has_joined g h k.seen t));
   made = λ g e. let m = f.made g e in record {
     seen = has_kept g h k.seen m.seen;
-    not_down = not_so (has g (without h k.down)) (λ t. clash (has g k.down) (has_without g h k.down t).1 m.not_down);
+    not_down = false_from_ne_true (has g (without h k.down)) (λ t. both_ways (has g k.down) m.not_down (has_without g h k.down t).1);
     once = m.once;
     reached = m.reached;
   };
@@ -46,10 +47,10 @@ look_fits s k h ws below f false down = record {
   out = f.out;
   put = f.put;
   seen = f.seen;
-  down = λ g e. ⊎_elim (λ (same : g ≡ h). not_so (has g k.seen) (λ t. unseen g same t)) (λ (old : has g k.down ≡ true). f.down g old) (has_joined g h k.down e);
+  down = λ g e. ⊎_elim (λ (same : g ≡ h). false_from_ne_true (has g k.seen) (λ t. unseen g same t)) (λ (old : has g k.down ≡ true). f.down g old) (has_joined g h k.down e);
   made = λ g e. let m = f.made g e in record {
     seen = m.seen;
-    not_down = not_so (has g (joined h k.down)) (λ t. ⊎_elim (λ (same : g ≡ h). unseen g same m.seen) (λ (old : has g k.down ≡ true). clash (has g k.down) old m.not_down) (has_joined g h k.down t));
+    not_down = false_from_ne_true (has g (joined h k.down)) (λ t. ⊎_elim (λ (same : g ≡ h). unseen g same m.seen) (λ (old : has g k.down ≡ true). both_ways (has g k.down) m.not_down old) (has_joined g h k.down t));
     once = m.once;
     reached = m.reached;
   };
@@ -60,7 +61,7 @@ look_fits s k h ws below f false down = record {
 }
   where
     unseen : (g : ℕ) → g ≡ h → has g k.seen ≡ true → ⊥
-    unseen g same t = clash (is_up s h) (subst (λ (j : ℕ). is_up s j ≡ true) same (f.seen g t).1) down
+    unseen g same t = both_ways (is_up s h) down (subst (λ (j : ℕ). is_up s j ≡ true) same (f.seen g t).1)
 
 look_stays : (h : ℕ) (b : Bool) (k : WorkerState) → ((looked h b k).drawn ≡ k.drawn) × ((looked h b k).out ≡ k.out)
 look_stays h true k = (refl, refl)
@@ -68,7 +69,7 @@ look_stays h false k = (refl, refl)
 
 pub look_keeps : (w h : ℕ) (s : CoreState) → IsSound s → allowed (Look w h) s ≡ true → IsSound (after (Look w h) s)
 look_keeps w h s k a =
-    let b = and_true (is_there s w) (nat_lt h (layers s.dims)) a in
+    let b = and_parts (is_there s w) (nat_lt h (layers s.dims)) a in
     let l = live s w b.0 in
     let u = looked h (is_up s h) (worker s w) in
     let st = look_stays h (is_up s h) (worker s w) in
@@ -76,8 +77,8 @@ look_keeps w h s k a =
 
 pub read_keeps : (w id : ℕ) (s : CoreState) → IsSound s → allowed (Read w id) s ≡ true → IsSound (after (Read w id) s)
 read_keeps w id s k a =
-    let c = and_true (is_there s w && nat_lt id (length (vertices s.dims))) (has (layer_of s id) (worker s w).seen) a in
-    let b = and_true (is_there s w) (nat_lt id (length (vertices s.dims))) c.0 in
+    let c = and_parts (is_there s w && nat_lt id (length (vertices s.dims))) (has (layer_of s id) (worker s w).seen) a in
+    let b = and_parts (is_there s w) (nat_lt id (length (vertices s.dims))) c.0 in
     let l = live s w b.0 in
     let f = sound_worker s w k l.within in
     let o = of_layer s.dims id (below_of id (length (vertices s.dims)) b.1) in
@@ -99,8 +100,8 @@ read_keeps w id s k a =
 
 pub quit_keeps : (w : ℕ) (s : CoreState) → IsSound s → allowed (Quit w) s ≡ true → IsSound (after (Quit w) s)
 quit_keeps w s k a =
-    let c = and_true (is_there s w && (worker s w).out) (has_all (worker s w).drawn (slabs_done (worker s w))) a in
-    let b = and_true (is_there s w) (worker s w).out c.0 in
+    let c = and_parts (is_there s w && (worker s w).out) (has_all (worker s w).drawn (slabs_done (worker s w))) a in
+    let b = and_parts (is_there s w) (worker s w).out c.0 in
     let l = live s w b.0 in
     let f = sound_worker s w k l.within in
     let u : WorkerState = record (worker s w) { gone = true } in
@@ -132,12 +133,12 @@ reach_right s k j sound f slab known = same_part (layer_start s.dims (reach_from
 
 pub finish_keeps : (w j : ℕ) (s : CoreState) → IsSound s → allowed (Finish w j) s ≡ true → IsSound (after (Finish w j) s)
 finish_keeps w j s k a =
-    let b = and_true (is_there s w) (may_finish s (worker s w) j) a in
-    let c = and_true (has j (worker s w).drawn && not (has j (slabs_done (worker s w)))) (has_all (reach s.dims s.slab j) (worker s w).seen) b.1 in
-    let d = and_true (has j (worker s w).drawn) (not (has j (slabs_done (worker s w)))) c.0 in
+    let b = and_parts (is_there s w) (may_finish s (worker s w) j) a in
+    let c = and_parts (has j (worker s w).drawn && not (has j (slabs_done (worker s w)))) (has_all (reach s.dims s.slab j) (worker s w).seen) b.1 in
+    let d = and_parts (has j (worker s w).drawn) (not (has j (slabs_done (worker s w)))) c.0 in
     let l = live s w b.0 in
     let f = sound_worker s w k l.within in
-    let new = not_true (has j (slabs_done (worker s w))) d.1 in
+    let new = not-true (has j (slabs_done (worker s w))) d.1 in
     let right = reach_right s (worker s w) j k f (drawn_below s w j k l.within d.0) c.1 in
     let entry : ℕ × List ℕ = (j, reach_words s s.words j) in
     let u : WorkerState = record (worker s w) { done = (worker s w).done ++ entry ∷ [] } in
@@ -150,8 +151,8 @@ finish_keeps w j s k a =
       made = λ h e. let m = f.made h e in record { seen = m.seen; not_down = m.not_down; once = m.once; reached = m.reached };
       got = f.got;
       done = All-push (λ (p : ℕ × List ℕ). p.1 ≡ reach_words s s.wanted p.0) (worker s w).done entry f.done right;
-      done_once = λ i e. by_slab i (same_or_other i j) (has_pushed i j (slabs_done (worker s w)) (subst (λ (x : List ℕ). has i x ≡ true) longer e)) longer d.0 new f;
-      gone = λ g. absurd (clash (worker s w).gone g l.stays);
+      done_once = λ i e. by_slab i (cases_eq i j) (has_pushed i j (slabs_done (worker s w)) (subst (λ (x : List ℕ). has i x ≡ true) longer e)) longer d.0 new f;
+      gone = λ g. absurd (both_ways (worker s w).gone l.stays g);
     })
   where
     by_slab : (i : ℕ) → (i ≡ j) ⊎ (i ≢ j) → (i ≡ j) ⊎ (has i (slabs_done (worker s w)) ≡ true) → {ds : List ℕ} → ds ≡ slabs_done (worker s w) ++ j ∷ [] → has j (worker s w).drawn ≡ true → has j (slabs_done (worker s w)) ≡ false
@@ -169,7 +170,7 @@ one_more x n m lt =
     ap (once_below x) b ∙ ⊎_elim
     (λ (same : x ≡ n). let t = times_one x in let e : times x (n ∷ []) ≡ 1 = ap (λ (z : ℕ). times x (z ∷ [])) (sym same) ∙ t in let p : once_below x (n + 1) ≡ 1 = when_true (nat_lt x (n + 1)) 1 0 (grind (arith, nat_tests)) in let q : once_below x n ≡ 0 = when_false (nat_lt x n) 1 0 (grind (arith, nat_tests)) in let r = ap (once_below x) a in omega arith)
     (λ (other : x ≢ n). let e = times_none x n other in let p : once_below x (n + 1) ≡ once_below x n = grind (arith, nat_tests) in let r = ap (once_below x) a in omega arith)
-    (same_or_other x n)
+    (cases_eq x n)
 
 claim_slab : (w : ℕ) (s : CoreState) → IsSound s → IsLive s w → s.next < slab_count s
     → IsSound (record s { next = s.next + 1; workers = set s.workers w (record (worker s w) { drawn = (worker s w).drawn ++ s.next ∷ [] }) })
@@ -196,7 +197,7 @@ claim_slab w s k l lt =
       got = f.got;
       done = f.done;
       done_once = λ j e. let o = f.done_once j e in (has_more j (worker s w).drawn (s.next ∷ []) o.0, o.1);
-      gone = λ g. absurd (clash (worker s w).gone g l.stays);
+      gone = λ g. absurd (both_ways (worker s w).gone l.stays g);
     })
 
 claim_none : (w : ℕ) (s : CoreState) → IsSound s → IsLive s w → (worker s w).out ≡ false → slab_count s ≤ s.next
@@ -224,13 +225,13 @@ claim_none w s k l inside le =
       got = f.got;
       done = f.done;
       done_once = f.done_once;
-      gone = λ g. absurd (clash (worker s w).gone g l.stays);
+      gone = λ g. absurd (both_ways (worker s w).gone l.stays g);
     })
 
 pub claim_keeps : (w : ℕ) (s : CoreState) → IsSound s → allowed (Claim w) s ≡ true → IsSound (after (Claim w) s)
 claim_keeps w s k a =
-    let c = and_true (is_there s w) (not (worker s w).out) a in
-    by_test (nat_lt s.next (slab_count s)) refl (live s w c.0) (not_true (worker s w).out c.1)
+    let c = and_parts (is_there s w) (not (worker s w).out) a in
+    by_test (nat_lt s.next (slab_count s)) refl (live s w c.0) (not-true (worker s w).out c.1)
   where
     by_test : (b : Bool) → nat_lt s.next (slab_count s) ≡ b → IsLive s w → (worker s w).out ≡ false
         → IsSound (record s { next = s.next + 1; workers = set s.workers w (if b then record (worker s w) { drawn = (worker s w).drawn ++ s.next ∷ [] } else record (worker s w) { out = true }) })
@@ -265,7 +266,7 @@ puts s id lt c = by_test (slice_index s.words id == 0) refl
 
 pub put_keeps : (w id : ℕ) (s : CoreState) → IsSound s → allowed (Put w id) s ≡ true → IsSound (after (Put w id) s)
 put_keeps w id s k a =
-    let b = and_true (is_there s w) (nat_lt id (length (vertices s.dims))) a in
+    let b = and_parts (is_there s w) (nat_lt id (length (vertices s.dims))) a in
     let l = live s w b.0 in
     let f = sound_worker s w k l.within in
     let below = below_of id (length (vertices s.dims)) b.1 in
@@ -284,7 +285,7 @@ put_keeps w id s k a =
       codes = λ j lt. ⊎_elim
           (λ (same : j ≡ id). inr (subst (λ (z : ℕ). slice_index (words_put s id) z ≡ slice_index s.wanted z) (sym same) p.here))
           (λ (other : j ≢ id). subst (λ (z : ℕ). (z ≡ 0) ⊎ (z ≡ slice_index s.wanted j)) (sym (p.others j other)) (k.words j lt))
-          (same_or_other j id);
+          (cases_eq j id);
       whole = λ h lt up j from to. stays j (id_in_all s.dims h j lt to) (k.flags h lt up j from to);
     })
     (record {
@@ -306,7 +307,7 @@ put_keeps w id s k a =
     kept p j e = ⊎_elim
         (λ (same : j ≡ id). subst (λ (z : ℕ). slice_index (words_put s id) z ≡ slice_index s.wanted z) (sym same) p.here)
         (λ (other : j ≢ id). p.others j other ∙ e)
-        (same_or_other j id)
+        (cases_eq j id)
 
 -- ---- a flag is raised
 
@@ -321,8 +322,8 @@ raise_fits s k h flags ws below here stays low reached f = record {
       (has_joined g h k.seen e);
   down = λ g e.
       let d = has_without g h k.down e in
-      not_so (has g (joined h k.seen)) (λ t. ⊎_elim (λ (same : g ≡ h). d.0 same) (λ (old : has g k.seen ≡ true). clash (has g k.seen) old (f.down g d.1)) (has_joined g h k.seen t));
-  made = λ g e. by_layer g (same_or_other g h) (has_pushed g h k.made e);
+      false_from_ne_true (has g (joined h k.seen)) (λ t. ⊎_elim (λ (same : g ≡ h). d.0 same) (λ (old : has g k.seen ≡ true). both_ways (has g k.seen) (f.down g d.1) old) (has_joined g h k.seen t));
+  made = λ g e. by_layer g (cases_eq g h) (has_pushed g h k.made e);
   got = f.got;
   done = f.done;
   done_once = f.done_once;
@@ -332,32 +333,32 @@ raise_fits s k h flags ws below here stays low reached f = record {
     by_layer : (g : ℕ) → (g ≡ h) ⊎ (g ≢ h) → (g ≡ h) ⊎ (has g k.made ≡ true) → IsMade (record s { flags = flags; workers = ws }) (raised h k) g
     by_layer g (inl same) p = subst (λ (z : ℕ). IsMade (record s { flags = flags; workers = ws }) (raised h k) z) (sym same) (record {
       seen = has_new h k.seen;
-      not_down = not_so (has h (without h k.down)) (λ t. (has_without h h k.down t).0 refl);
-      once = times_new h k.made (not_so (has h k.made) (λ m. clash (has h k.seen) (f.made h m).seen (f.down h low)));
+      not_down = false_from_ne_true (has h (without h k.down)) (λ t. (has_without h h k.down t).0 refl);
+      once = times_new h k.made (false_from_ne_true (has h k.made) (λ m. both_ways (has h k.seen) (f.down h low) (f.made h m).seen));
       reached = reached;
     })
     by_layer g (inr other) (inl same) = absurd (other same)
     by_layer g (inr other) (inr old) = let m = f.made g old in record {
       seen = has_kept g h k.seen m.seen;
-      not_down = not_so (has g (without h k.down)) (λ t. clash (has g k.down) (has_without g h k.down t).1 m.not_down);
+      not_down = false_from_ne_true (has g (without h k.down)) (λ t. both_ways (has g k.down) m.not_down (has_without g h k.down t).1);
       once = times_other g h k.made other ∙ m.once;
       reached = m.reached;
     }
 
 -- a layer in the reach of a drawn slab is a layer
 pub reached_layer : (s : CoreState) (h : ℕ) (js : List ℕ) → list_any (λ j. is_in_reach s.dims s.slab j h) js ≡ true → h < layers s.dims
-reached_layer s h [] e = absurd (clash true refl (sym e))
+reached_layer s h [] e = absurd (both_ways true (sym e) refl)
 reached_layer s h (j ∷ js) e = by_test (is_in_reach s.dims s.slab j h) refl e (reached_layer s h js)
   where
     by_test : (b : Bool) → is_in_reach s.dims s.slab j h ≡ b → (b || list_any (λ i. is_in_reach s.dims s.slab i h) js) ≡ true → (list_any (λ i. is_in_reach s.dims s.slab i h) js ≡ true → h < layers s.dims) → h < layers s.dims
-    by_test true is e rest = let lt : h < reach_to s.dims s.slab j = below_of h (reach_to s.dims s.slab j) (and_true (nat_le (reach_from s.slab j) h) (nat_lt h (reach_to s.dims s.slab j)) is).1 in omega arith
+    by_test true is e rest = let lt : h < reach_to s.dims s.slab j = below_of h (reach_to s.dims s.slab j) (and_parts (nat_le (reach_from s.slab j) h) (nat_lt h (reach_to s.dims s.slab j)) is).1 in omega arith
     by_test false is e rest = rest e
 
 pub raise_keeps : (w h : ℕ) (s : CoreState) → IsSound s → allowed (Raise w h) s ≡ true → IsSound (after (Raise w h) s)
 raise_keeps w h s k a =
-    let d = and_true (is_there s w && has h (worker s w).down && reaches s (worker s w) h) (has_put_layer s (worker s w) h) a in
-    let c = and_true (is_there s w && has h (worker s w).down) (reaches s (worker s w) h) d.0 in
-    let b = and_true (is_there s w) (has h (worker s w).down) c.0 in
+    let d = and_parts (is_there s w && has h (worker s w).down && reaches s (worker s w) h) (has_put_layer s (worker s w) h) a in
+    let c = and_parts (is_there s w && has h (worker s w).down) (reaches s (worker s w) h) d.0 in
+    let b = and_parts (is_there s w) (has h (worker s w).down) c.0 in
     let l = live s w b.0 in
     let f = sound_worker s w k l.within in
     let below = reached_layer s h (worker s w).drawn c.1 in
@@ -377,7 +378,7 @@ raise_keeps w h s k a =
       whole = λ g lt up i from to. ⊎_elim
           (λ (same : g ≡ h). (f.put i (has_among i (layer_ids s.dims h) (worker s w).put d.1 (has_range i (layer_start s.dims h) (layer_len s.dims h) (subst (λ (z : ℕ). layer_start s.dims z ≤ i) same from) (subst (λ (z : ℕ). i < layer_start s.dims z + layer_len s.dims z) same to)))).1)
           (λ (other : g ≢ h). k.flags g lt (sym (get_or-set_other s.flags h g true false other) ∙ up) i from to)
-          (same_or_other g h);
+          (cases_eq g h);
     })
     (raise_fits s (worker s w) h (set s.flags h true) (set s.workers w u) below here (stays here) b.1 c.1 f)
   where
@@ -385,7 +386,7 @@ raise_keeps w h s k a =
     stays here j e = ⊎_elim
         (λ (same : j ≡ h). subst (λ (z : ℕ). slice_index_or (set s.flags h true) z false ≡ true) (sym same) here)
         (λ (other : j ≢ h). get_or-set_other s.flags h j true false other ∙ e)
-        (same_or_other j h)
+        (cases_eq j h)
 
 -- each event that is allowed keeps the invariant
 pub keeps : (e : Event) (s : CoreState) → IsSound s → allowed e s ≡ true → IsSound (after e s)

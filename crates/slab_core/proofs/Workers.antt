@@ -9,10 +9,10 @@ use Rattle.std.proofs.lemmas.List.{length-set}
 use Rattle.std.proofs.lemmas.List.Sums.{sum_by-set, get_or-le-sum_by}
 use Rattle.std.proofs.lemmas.List.Elements.{All-set, All-weaker, All-get_or}
 use Rattle.std.proofs.lemmas.List.Folds.{list_any-append}
+use Rattle.std.proofs.lemmas.Bool.{and_parts, not-true, or_left}
 use Rattle.definitions.specs.Lattice.{vertices, layers}
 use Rattle.definitions.specs.Layout.{layer_start, layer_len, is_in_reach}
 use Rattle.list_words.specs.Words.{has, times, once_below}
-use Rattle.list_words.proofs.Tests.{and_true, not_true, or_left}
 use Rattle.list_words.proofs.Sums.{times-flat_map}
 use Rattle.list_words.proofs.Lists.{has_times}
 use Rattle.slab_core.specs.States.{WorkerState, CoreState, new_worker}
@@ -26,8 +26,8 @@ pub record IsLive (s : CoreState) (w : ℕ) : Type 0 where
 
 pub live : (s : CoreState) (w : ℕ) → is_there s w ≡ true → IsLive s w
 live s w l =
-    let b = and_true (nat_lt w (length s.workers)) (not (worker s w).gone) l in
-    record { within = (let t = b.0 in grind (arith, nat_tests)); stays = not_true (worker s w).gone b.1 }
+    let b = and_parts (nat_lt w (length s.workers)) (not (worker s w).gone) l in
+    record { within = (let t = b.0 in grind (arith, nat_tests)); stays = not-true (worker s w).gone b.1 }
 
 pub sound_worker : (s : CoreState) (w : ℕ) → IsSound s → w < length s.workers → IsSoundWorker s (worker s w)
 sound_worker s w k lt = All-get_or (IsSoundWorker s) s.workers w new_worker lt k.each

@@ -1,6 +1,6 @@
 -- Numbers that are drawn, and what is made of them.
 use Rattle.std.proofs.Common.{◌≡◌, ℕ, zero, suc, ◌-◌, ◌<◌, ◌≤◌, arith, subst, List, [], ◌∷◌, ◌++◌, All}
-use Rattle.slab_texts.proofs.Adding.{all_right}
+use Rattle.list_words.proofs.Lists.{all_right}
 
 -- a number above all that were drawn is not below the next after the last of them
 pub follows : (next n : ℕ) (drawn : List ℕ) → (0 < next → (xs : List ℕ) × (drawn ≡ xs ++ (next - 1) ∷ [])) → All (λ x. x < n) drawn → next ≤ n

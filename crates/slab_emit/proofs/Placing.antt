@@ -1,13 +1,10 @@
 -- Places that are filled one after another.
-use Rattle.std.proofs.Common.{◌≡◌, ◌⊎◌, ℕ, ◌+◌, ◌<◌, arith, sym, ◌∙◌, ap, subst, inl, inr, List, [], ◌∷◌, ◌++◌, length, length-append, get_or, set, Option, Some, None, All, Bool, true, false, refl}
+use Rattle.std.proofs.Common.{◌≡◌, ◌⊎◌, ℕ, ◌+◌, ◌<◌, arith, sym, ◌∙◌, ap, subst, inl, inr, List, [], ◌∷◌, ◌++◌, length, length-append, get_or, set, Option, Some, None, All}
 use Rattle.std.specs.Option.{ForSome}
 use Rattle.std.proofs.lemmas.List.{get_or-append-add, get_or-set_other, get_or-set_same, get_or_append_left, length-set}
-use Rattle.std.specs.Prelude.{IfOk, Result, nat_lt}
-use Rattle.std.proofs.lemmas.Bool.Decides.{nat_tests}
+use Rattle.std.specs.Prelude.{IfOk, Result}
+use Rattle.std.proofs.lemmas.Bool.{cases_eq}
 use Rattle.st_base.specs.declared.NoMemory.{NoMemory}
-use Rattle.list_words.specs.Words.{EachOnce, has}
-use Rattle.list_words.proofs.Lists.{same_or_other, times_has}
-use Rattle.list_words.proofs.Tests.{when_true}
 use Rattle.slab_emit.specs.declared.lines.Lines.{Lines}
 use Rattle.slab_emit.specs.declared.part.Part.{Part}
 use Rattle.slab_emit.specs.Parts.{AreParts, IsPart}
@@ -20,7 +17,7 @@ Fit lines s j place = ForSome place (λ made. IfOk made (IsPart lines s j))
 
 -- one more place is filled
 pub fit_set : (lines : Lines) (s : SourceValue) (first at : ℕ) (p : Result Part NoMemory) (places : List (Option (Result Part NoMemory))) → at < length places → IfOk p (IsPart lines s (first + at)) → FitPlaces lines s first places → FitPlaces lines s first (set places at (Some p))
-fit_set lines s first at p places lt h fit = λ k d below. elim (same_or_other k at) [
+fit_set lines s first at p places lt h fit = λ k d below. elim (cases_eq k at) [
   | inl e ↦
       subst (Fit lines s (first + k)) (sym (ap (λ n. get_or (set places at (Some p)) n d) e ∙ get_or-set_same places at (Some p) d lt))
       (λ q is. subst (λ (r : Result Part NoMemory). IfOk r (IsPart lines s (first + k))) (some_same p q is) (subst (λ n. IfOk p (IsPart lines s (first + n))) (sym e) h))
@@ -38,18 +35,10 @@ filled_here at p places lt = λ d below e. some_is_not p (sym (get_or-set_same p
 
 -- those that were filled still are
 pub filled_still : (at k : ℕ) (p : Result Part NoMemory) (places : List (Option (Result Part NoMemory))) → at < length places → IsFilled places k → IsFilled (set places at (Some p)) k
-filled_still at k p places lt h = elim (same_or_other k at) [
+filled_still at k p places lt h = elim (cases_eq k at) [
   | inl e ↦ subst (IsFilled (set places at (Some p))) (sym e) (filled_here at p places lt)
   | inr ne ↦ λ d below e. h d (let l = length-set places at (Some p) in omega arith) (sym (get_or-set_other places at k (Some p) d ne) ∙ e)
 ]
-
--- numbers each of which stands in a list once
-pub stands : (n x : ℕ) (xs : List ℕ) → EachOnce n xs → x < n → has x xs ≡ true
-stands n x xs once lt = by_test (has x xs) refl
-  where
-    by_test : (b : Bool) → has x xs ≡ b → b ≡ true
-    by_test true e = refl
-    by_test false e = let z = times_has x xs e in let o = once x in let w = when_true (nat_lt x n) 1 0 (let t : nat_lt x n ≡ true = grind (arith, nat_tests) in t) in absurd (omega arith)
 
 pub no_parts : (lines : Lines) (s : SourceValue) (first : ℕ) → AreParts lines s first []
 no_parts lines s first = record { each = λ k d lt. absurd (omega arith) }

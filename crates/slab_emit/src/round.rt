@@ -6,7 +6,7 @@ ghost use Rattle.slab_emit.specs.Parts.{AreParts};
 ghost use Rattle.slab_emit.specs.Sources.{CanPrint, SourceValue};
 ghost use Rattle.slab_emit.specs.Workers.{FitPlaces, HasMade, IsFilled, IsFinished, IsMade, IsReady, numbers_of, shares_of};
 
-use crate::worker::{Made, Worker, run_all};
+use crate::worker::{Made, Worker, run_to_end};
 use crate::{Crew, Lines, Part, Source};
 use slab_claims::{ClaimSeat, Claims};
 use st_base::{Gate, NoMemory};
@@ -77,30 +77,6 @@ fn hire(
     let last = worker_of(alloc, claims, crew, 0, seat, count)?;
     hired.push_reserved(last);
     Ok(hired)
-}
-
-// Runs the workers to their end.
-fn run_to_end<G: Gate + Sync, R: Threads + Sync>(
-    rt: &R,
-    alloc: Global,
-    source: &Source,
-    lines: Lines,
-    first: u32,
-    claims: &Claims,
-    gate: &G,
-    workers: Vec<Worker>,
-) -> Vec<Worker>
-    requires some { 0 < length workers.items }
-    requires slabs { first + claims.now.slabs ≤ slabs source.now.field.dims source.now.slab }
-    requires small { first + claims.now.slabs < 2 ^ 32 }
-    requires printable { CanPrint lines source.now }
-    requires ready { All (IsReady claims.now) workers.items }
-    ensures finished { All (IsFinished claims.now) result.items }
-    ensures made { All (HasMade lines source.now first) result.items }
-    ensures shares { shares_of result.items ≡ shares_of workers.items }
-    ensures some { 0 < length result.items }
-{
-    run_all(rt, alloc, source, lines, first, claims, gate, workers)
 }
 
 // So many empty places.

@@ -1,7 +1,7 @@
-ghost use Rattle.std.specs.Prelude.{◌≡◌, ◌+◌, ◌<◌, ◌≤◌, ◌^◌, ℕ, All, length, slice_index_or};
+ghost use Rattle.std.specs.Prelude.{◌≡◌, ◌+◌, ◌<◌, ◌≤◌, ◌^◌, All, length};
 ghost use Rattle.definitions.specs.Layout.{slabs};
 ghost use Rattle.slab_emit.specs.Sources.{CanPrint};
-ghost use Rattle.slab_emit.specs.Workers.{HasMade, IsFinished, IsMade, IsReady};
+ghost use Rattle.slab_emit.specs.Workers.{HasMade, IsFinished, IsMade, IsReady, shares_of};
 
 use crate::{Lines, Part, Source, part_of};
 use crews::run_each;
@@ -75,8 +75,8 @@ pub fn run_worker<G: Gate>(
     }
 }
 
-/// Runs the workers, each in a thread of its own where one can be made.
-pub fn run_all<G: Gate + Sync, R: Threads + Sync>(
+/// Runs the workers to their end, each in a thread of its own where one can be made.
+pub fn run_to_end<G: Gate + Sync, R: Threads + Sync>(
     rt: &R,
     alloc: Global,
     source: &Source,
@@ -91,10 +91,10 @@ pub fn run_all<G: Gate + Sync, R: Threads + Sync>(
     requires small { first + claims.now.slabs < 2 ^ 32 }
     requires printable { CanPrint lines source.now }
     requires ready { All (IsReady claims.now) workers.items }
-    ensures len { length result.items ≡ length workers.items }
-    ensures finished { (i : ℕ) (d : _) → i < length workers.items → IsFinished claims.now (slice_index_or result.items i d) }
-    ensures made { (i : ℕ) (d : _) → i < length workers.items → HasMade lines source.now first (slice_index_or result.items i d) }
-    ensures shares { (i : ℕ) (d : _) → i < length workers.items → (slice_index_or result.items i d).seat.share ≡ (slice_index_or workers.items i d).seat.share }
+    ensures finished { All (IsFinished claims.now) result.items }
+    ensures made { All (HasMade lines source.now first) result.items }
+    ensures shares { shares_of result.items ≡ shares_of workers.items }
+    ensures some { 0 < length result.items }
 {
     run_each(
         rt,

@@ -1,29 +1,18 @@
 -- Ranges of numbers, and lists in which numbers below a bound stand at most once.
-use Rattle.std.proofs.Common.{◌≡◌, ◌≢◌, ◌⊎◌, inl, inr, ℕ, zero, suc, ◌+◌, ◌-◌, ◌*◌, ◌<◌, ◌≤◌, ◌==◌, ne_eqb, List, [], ◌∷◌, ◌++◌, length, true, ◌&&◌, refl, sym, ap, ◌∙◌, ⊎_elim, arith}
+use Rattle.std.proofs.Common.{◌≡◌, ◌≢◌, ℕ, zero, suc, ◌+◌, ◌-◌, ◌*◌, ◌<◌, ◌≤◌, ◌==◌, ne_eqb, List, [], ◌∷◌, ◌++◌, length, true, ◌&&◌, refl, sym, ap, ◌∙◌, ⊎_elim, arith}
 use Rattle.std.proofs.Math.Nat.{mul-le-mul_right}
 use Rattle.std.specs.List.{range_with_len, sum_by}
 use Rattle.std.proofs.lemmas.Bool.Decides.{nat_tests}
 use Rattle.std.proofs.lemmas.List.Sums.{sum_by-cons}
+use Rattle.std.proofs.lemmas.Bool.{cases_eq}
 use Rattle.list_words.specs.Words.{has, has_all, times, without, once_below}
 use Rattle.list_words.proofs.Tests.{when_true, when_false}
-use Rattle.list_words.proofs.Lists.{same_or_other, self_eq, times_cons}
+use Rattle.list_words.proofs.Lists.{self_eq, times_cons}
 use Rattle.list_words.proofs.Sums.{sum_below, sum-without, times_without, gone_without}
-
-pub below_or_not : (a b : ℕ) → (a < b) ⊎ (b ≤ a)
-below_or_not zero zero = inr (omega arith)
-below_or_not zero (suc b) = inl (omega arith)
-below_or_not (suc a) zero = inr (omega arith)
-below_or_not (suc a) (suc b) = ⊎_elim (λ (x : a < b). inl (omega arith)) (λ (x : b ≤ a). inr (omega arith)) (below_or_not a b)
-
-pub range_join : (a m n : ℕ) → range_with_len a (m + n) ≡ range_with_len a m ++ range_with_len (a + m) n
-range_join a zero n = λ i. range_with_len ((let e : a ≡ a + 0 = omega arith in e) i) ((let e : 0 + n ≡ n = omega arith in e) i)
-range_join a (suc m) n =
-    let e : suc m + n ≡ suc (m + n) = omega arith in
-    let f : a + 1 + m ≡ a + suc m = omega arith in
-    ap (range_with_len a) e ∙ ap (λ (l : List ℕ). a ∷ l) (range_join (a + 1) m n ∙ ap (λ (k : ℕ). range_with_len (a + 1) m ++ range_with_len k n) f)
+use Rattle.list_words.proofs.Ranges.{range_add}
 
 pub range_more : (a n h : ℕ) → a + n ≡ h → range_with_len a (n + 1) ≡ range_with_len a n ++ h ∷ []
-range_more a n h e = range_join a n 1 ∙ ap (λ (k : ℕ). range_with_len a n ++ k ∷ []) e
+range_more a n h e = range_add a n 1 ∙ ap (λ (k : ℕ). range_with_len a n ++ k ∷ []) e
 
 -- the layers up to h, and one more
 pub range_up : (a h : ℕ) → a ≤ h → range_with_len a (h + 1 - a) ≡ range_with_len a (h - a) ++ h ∷ []
@@ -32,7 +21,7 @@ range_up a h le = ap (range_with_len a) (let e : h + 1 - a ≡ h - a + 1 = omega
 -- and those behind it
 pub range_split : (a h b : ℕ) → a ≤ h → h ≤ b → range_with_len a (b - a) ≡ range_with_len a (h - a) ++ range_with_len h (b - h)
 range_split a h b le up =
-    ap (range_with_len a) (let e : b - a ≡ h - a + (b - h) = omega arith in e) ∙ range_join a (h - a) (b - h) ∙ ap (λ (k : ℕ). range_with_len a (h - a) ++ range_with_len k (b - h)) (let e : a + (h - a) ≡ h = omega arith in e)
+    ap (range_with_len a) (let e : b - a ≡ h - a + (b - h) = omega arith in e) ∙ range_add a (h - a) (b - h) ∙ ap (λ (k : ℕ). range_with_len a (h - a) ++ range_with_len k (b - h)) (let e : a + (h - a) ≡ h = omega arith in e)
 
 -- each number of a range stands in the list
 pub all_has : (a n : ℕ) (ids : List ℕ) → ((x : ℕ) → a ≤ x → x < a + n → has x ids ≡ true) → has_all (range_with_len a n) ids ≡ true
@@ -56,7 +45,7 @@ times_range x a (suc n) =
     (λ (o : x ≢ a).
     let z = when_false (a == x) 1 0 (ne_eqb a x (λ s. o (sym s))) in
     (omega arith, λ lt. let y = h.1 (omega arith) in omega arith))
-    (same_or_other x a)
+    (cases_eq x a)
 
 -- the sum over different numbers below n
 pub sum_at_most : (f : ℕ → ℕ) (n : ℕ) (xs : List ℕ) → ((x : ℕ) → times x xs ≤ once_below x n) → sum_by f xs ≤ sum_below f n
@@ -79,7 +68,7 @@ sum_at_most f (suc n) xs once =
     stripped x = ⊎_elim
         (λ (s : x ≡ n). let g = gone_without n xs in let p : times x (without n xs) ≡ times n (without n xs) = ap (λ (k : ℕ). times k (without n xs)) s in omega arith)
         (λ (o : x ≢ n). let t = times_without n x xs o in let b = once x in let same : once_below x (suc n) ≡ once_below x n = (let ne = o in grind (arith, nat_tests)) in omega arith)
-        (same_or_other x n)
+        (cases_eq x n)
 
 -- there are at most n different numbers below n
 pub few_numbers : (n : ℕ) (xs : List ℕ) → ((x : ℕ) → times x xs ≤ once_below x n) → length xs ≤ n

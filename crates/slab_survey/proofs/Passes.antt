@@ -4,12 +4,12 @@ use Rattle.std.specs.Prelude.{filter}
 use Rattle.std.specs.List.{range_with_len}
 use Rattle.std.proofs.lemmas.Bool.Decides.{nat_tests}
 use Rattle.std.proofs.lemmas.List.Sums.{sum_by_push}
+use Rattle.std.proofs.lemmas.Bool.{and_parts, both_ways, false_from_ne_true, cases_eq}
 use Rattle.definitions.specs.declared.Dims.{Dims}
 use Rattle.definitions.specs.Layout.{layer_len}
 use Rattle.lattice_laws.specs.Ascending.{IsPart}
 use Rattle.list_words.specs.Words.{has, has_all, joined, once_below, times}
-use Rattle.list_words.proofs.Tests.{and_true, clash, not_so}
-use Rattle.list_words.proofs.Lists.{has_kept, has_new, has_pushed, same_or_other, times_new, times_other}
+use Rattle.list_words.proofs.Lists.{has_kept, has_new, has_pushed, times_new, times_other}
 use Rattle.layer_cells.specs.Seats.{CellSeatValue}
 use Rattle.slab_survey.specs.Layers.{unknown, vertices_in, MadeOnce, Surveys}
 use Rattle.slab_survey.proofs.Numbers.{range_split, range_up}
@@ -18,7 +18,7 @@ use Rattle.slab_survey.proofs.Sublists.{part_filter_more, part_filter_push, part
 all_known : (hs : List ℕ) (h : ℕ) (seen : List ℕ) → has_all hs seen ≡ true → has_all (hs ++ h ∷ []) (joined h seen) ≡ true
 all_known [] h seen all = λ i. has_new h seen i && true
 all_known (k ∷ ks) h seen all =
-    let a = and_true (has k seen) (has_all ks seen) all in
+    let a = and_parts (has k seen) (has_all ks seen) all in
     λ i. has_kept k h seen a.0 i && all_known ks h seen a.1 i
 
 pub begins : (v : CellSeatValue) → Surveys [] v v []
@@ -39,7 +39,7 @@ knows_one hs h v w x grown s of seen made = record {
 
 -- what is not known now was not known before
 pub was_unknown : (hs : List ℕ) (h : ℕ) (v w : CellSeatValue) (grown : List ℕ) → Surveys hs v w grown → has h w.seen ≡ false → has h v.seen ≡ false
-was_unknown hs h v w grown s e = not_so (has h v.seen) (λ k. clash (has h w.seen) (s.kept h k) e)
+was_unknown hs h v w grown s e = false_from_ne_true (has h v.seen) (λ k. both_ways (has h w.seen) e (s.kept h k))
 
 pub makes_one : (hs : List ℕ) (h : ℕ) (v w x : CellSeatValue) (grown : List ℕ) → Surveys hs v w grown → x.of ≡ w.of → x.seen ≡ joined h w.seen → x.made ≡ w.made ++ h ∷ [] → has h w.seen ≡ false → Surveys (hs ++ h ∷ []) v x (grown ++ h ∷ [])
 makes_one hs h v w x grown s of seen made new = record {
@@ -93,7 +93,7 @@ once_made layers h w x below o seen made new = record {
 }
   where
     fresh : has h w.made ≡ false
-    fresh = not_so (has h w.made) (λ k. clash (has h w.seen) (o.known h k) new)
+    fresh = false_from_ne_true (has h w.made) (λ k. both_ways (has h w.seen) new (o.known h k))
 
     at : (k : ℕ) → times k (w.made ++ h ∷ []) ≤ once_below k layers
     at k = ⊎_elim
@@ -103,4 +103,4 @@ once_made layers h w x below o seen made new = record {
         let one : once_below k layers ≡ 1 = (let lt : k < layers = omega arith in grind (arith, nat_tests)) in
         omega arith)
         (λ (n : k ≢ h). let t = times_other k h w.made n in let b = o.once k in omega arith)
-        (same_or_other k h)
+        (cases_eq k h)

@@ -1,11 +1,11 @@
 -- A seat that puts one vertex after another.
 use Rattle.std.proofs.Common.{◌≡◌, ◌≢◌, ℕ, ◌+◌, ◌<◌, ◌≤◌, List, true, refl, sym, ap, ◌∙◌, subst, ⊎_elim, arith}
+use Rattle.std.proofs.lemmas.Bool.{cases_eq, cases_lt}
 use Rattle.list_words.specs.Words.{has, joined}
-use Rattle.list_words.proofs.Lists.{has_kept, has_new, same_or_other}
+use Rattle.list_words.proofs.Lists.{has_kept, has_new}
 use Rattle.layer_cells.specs.Seats.{CellSeatValue}
 use Rattle.layer_cells.specs.Answers.{seat_put}
 use Rattle.slab_survey.specs.Layers.{HasPut}
-use Rattle.slab_survey.proofs.Numbers.{below_or_not}
 
 pub put_none : (a b : ℕ) (v : CellSeatValue) → b ≤ a → HasPut a b v v
 put_none a b v le = record { rest = refl; kept = λ id e. e; ids = λ id lo hi. absurd (omega arith) }
@@ -20,14 +20,14 @@ put_one a b c n v w x p e at end =
       ids = λ id lo hi. ⊎_elim
           (λ (s : id ≡ n). ap (has id) here ∙ subst (λ (m : ℕ). has m (joined n w.put) ≡ true) (sym s) (has_new n w.put))
           (λ (o : id ≢ n). more id (p.ids id lo (let ne = o in omega arith)))
-          (same_or_other id n);
+          (cases_eq id n);
     }
 
 pub put_both : (a b c d : ℕ) (v w x : CellSeatValue) → HasPut a b v w → HasPut c d w x → c ≡ b → HasPut a d v x
 put_both a b c d v w x p q seam = record {
   rest = q.rest ∙ ap (λ (s : CellSeatValue). record s { put = x.put }) p.rest;
   kept = λ id k. q.kept id (p.kept id k);
-  ids = λ id lo hi. ⊎_elim (λ (l : id < b). q.kept id (p.ids id lo l)) (λ (g : b ≤ id). q.ids id (omega arith) hi) (below_or_not id b);
+  ids = λ id lo hi. ⊎_elim (λ (l : id < b). q.kept id (p.ids id lo l)) (λ (g : b ≤ id). q.ids id (omega arith) hi) (cases_lt id b);
 }
 
 pub put_same : (a b c d : ℕ) (v w : CellSeatValue) → a ≡ c → b ≡ d → HasPut a b v w → HasPut c d v w

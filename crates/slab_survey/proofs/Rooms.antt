@@ -1,15 +1,15 @@
 -- The vertices of the layers that are made, and of those that are not known, are at most all.
-use Rattle.std.proofs.Common.{◌≡◌, ℕ, zero, suc, ◌+◌, ◌*◌, ◌/◌, ◌%◌, ◌≤◌, ◌==◌, ne_eqb, List, [], ◌∷◌, ◌++◌, length, Bool, true, false, not, if◌then◌else◌, refl, sym, ap, ◌∙◌, ⊎_elim, arith}
+use Rattle.std.proofs.Common.{◌≡◌, ℕ, zero, suc, ◌+◌, ◌≤◌, ◌==◌, ne_eqb, List, [], ◌∷◌, ◌++◌, length, Bool, true, false, not, if◌then◌else◌, refl, sym, ap, ◌∙◌, ⊎_elim, arith}
 use Rattle.std.specs.List.{range_with_len}
 use Rattle.std.proofs.lemmas.Bool.Decides.{nat_tests}
 use Rattle.std.proofs.lemmas.List.Sums.{sum_by-append}
+use Rattle.std.proofs.lemmas.Bool.{both_ways, false_from_ne_true, cases_Bool}
+use Rattle.vertex_numbers.proofs.LayerStarts.{no_layers}
 use Rattle.definitions.specs.declared.Dims.{Dims}
 use Rattle.definitions.specs.Lattice.{layers, vertices}
 use Rattle.definitions.specs.Layout.{layer_len, layer_start}
-use Rattle.lattice_counts.specs.Counts.{even_len, odd_len}
-use Rattle.lattice_counts.proofs.Ranks.{start}
 use Rattle.list_words.specs.Words.{has, once_below, times}
-use Rattle.list_words.proofs.Tests.{clash, not_so, true_or_false, when_false}
+use Rattle.list_words.proofs.Tests.{when_false}
 use Rattle.list_words.proofs.Lists.{times_append, times_cons, times_has}
 use Rattle.list_words.proofs.Sums.{sum_below}
 use Rattle.slab_core.proofs.Layers.{all_start, next_start}
@@ -26,15 +26,9 @@ starts_sum d (suc h) le none =
     let e : layer_start d (suc h) ≡ layer_start d (h + 1) = ap (layer_start d) (let f : suc h ≡ h + 1 = omega arith in f) in
     omega arith
 
-none_below : (d : Dims) → layer_start d 0 ≡ 0
-none_below d = start d 0 (omega arith) ∙ none (even_len d) (odd_len d)
-  where
-    none : (e o : ℕ) → 0 / 2 * (e + o) + 0 % 2 * e ≡ 0
-    none e o = omega arith
-
 -- the layers together have all vertices
 pub all_layers : (d : Dims) → sum_below (layer_len d) (layers d) ≡ length (vertices d)
-all_layers d = starts_sum d (layers d) (omega arith) (none_below d) ∙ all_start d
+all_layers d = starts_sum d (layers d) (omega arith) (no_layers d) ∙ all_start d
 
 -- a known layer is not among the unknown ones
 not_unknown : (x : ℕ) (seen hs : List ℕ) → has x seen ≡ true → times x (unknown seen hs) ≡ 0
@@ -45,7 +39,7 @@ not_unknown x seen (y ∷ ys) e = by_test (has y seen) refl (not_unknown x seen 
     by_test true is h = h
     by_test false is h =
         let c = times_cons x y (unknown seen ys) in
-        let z = when_false (y == x) 1 0 (ne_eqb y x (λ (s : y ≡ x). clash (has x seen) e (ap (λ (k : ℕ). has k seen) (sym s) ∙ is))) in
+        let z = when_false (y == x) 1 0 (ne_eqb y x (λ (s : y ≡ x). both_ways (has x seen) (ap (λ (k : ℕ). has k seen) (sym s) ∙ is) e)) in
         omega arith
 
 -- the layers that a seat made and those of a range that it doesn't know have at most all vertices
@@ -65,9 +59,9 @@ all_room d a n w o within =
         ⊎_elim
         (λ (k : has x w.seen ≡ true). let z = not_unknown x w.seen (range_with_len a n) k in let b = o.once x in omega arith)
         (λ (u : has x w.seen ≡ false).
-        let z = times_has x w.made (not_so (has x w.made) (λ m. clash (has x w.seen) (o.known x m) u)) in
+        let z = times_has x w.made (false_from_ne_true (has x w.made) (λ m. both_ways (has x w.seen) u (o.known x m))) in
         let p : times x (unknown w.seen (range_with_len a n)) ≤ times x (range_with_len a n) = part_sum (λ (y : ℕ). if y == x then 1 else 0) (unknown w.seen (range_with_len a n)) (range_with_len a n) (filter_part (λ h. not (has h w.seen)) (range_with_len a n)) in
         let r = (times_range x a n).0 in
         let i = wider x (a + n) (layers d) within in
         omega arith)
-        (true_or_false (has x w.seen))
+        (cases_Bool (has x w.seen))

@@ -1,7 +1,7 @@
 -- Lines of tetrahedra, one after another.
-use Rattle.std.proofs.Common.{◌≡◌, ℕ, ◌+◌, arith, refl, sym, ◌∙◌, ap, subst, Bool, true, false, List, [], ◌++◌, All, length, map, length-append, append_assoc, append-nil}
+use Rattle.std.proofs.Common.{◌≡◌, ℕ, ◌+◌, arith, refl, sym, ◌∙◌, ap, Bool, true, false, List, [], ◌++◌, length, map, length-append, append_assoc, append-nil}
 use Rattle.std.specs.Prelude.{flat_map}
-use Rattle.std.proofs.lemmas.List.{get_or_append_left, get_or-append-add, length-map, map-append}
+use Rattle.std.proofs.lemmas.List.{length-map, map-append}
 use Rattle.std.specs.List.{enumerate_from}
 use Rattle.definitions.specs.declared.Place.{Place}
 use Rattle.definitions.specs.Angles.{angles_of, extremes_of}
@@ -9,13 +9,6 @@ use Rattle.mesh_lists.proofs.NumberedLists.{numbered_append}
 use Rattle.mesh_texts.specs.Lines.{ele_line, ele_lines, renumbered}
 use Rattle.slab_texts.specs.declared.lines.TetLines.{TetLines}
 use Rattle.slab_texts.specs.Texts.{AddsTets, lines_if}
-
--- what holds of both parts
-pub all_left : {X : Type 0} (P : X → Type 0) (xs ys : List X) → All P (xs ++ ys) → All P xs
-all_left P xs ys h = λ k d lt. subst P (get_or_append_left xs ys d k lt) (h k d (let l = length-append xs ys in omega arith))
-
-pub all_right : {X : Type 0} (P : X → Type 0) (xs ys : List X) → All P (xs ++ ys) → All P ys
-all_right P xs ys h = λ k d lt. subst P (get_or-append-add xs ys k d) (h (length xs + k) d (let l = length-append xs ys in omega arith))
 
 -- lines of both
 pub lines_then : (writes : Bool) (first from : ℕ) (xs ys : List (List ℕ)) → lines_if writes first from xs ++ lines_if writes first (from + length xs) ys ≡ lines_if writes first from (xs ++ ys)

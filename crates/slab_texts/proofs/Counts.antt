@@ -4,6 +4,7 @@ use Rattle.std.specs.Prelude.{flat_map, sum_by}
 use Rattle.std.specs.List.{range_with_len}
 use Rattle.std.proofs.lemmas.List.Concat.{length-flat_map}
 use Rattle.std.proofs.lemmas.List.FromFn.{take-map-range_with_len}
+use Rattle.list_words.proofs.Sums.{sum_by-map}
 use Rattle.definitions.specs.declared.Dims.{Dims}
 use Rattle.definitions.specs.declared.State.{State}
 use Rattle.definitions.specs.Lattice.{IsDims, layers}
@@ -11,7 +12,6 @@ use Rattle.definitions.specs.Mesh.{layer_pieces}
 use Rattle.lattice_counts.proofs.Ranks.{all_small}
 use Rattle.mesh_lists.proofs.Sizes.{few_pieces}
 use Rattle.vertex_numbers.specs.Counts.{count_of_layer, layer_counts}
-use Rattle.vertex_numbers.proofs.Sums.{sum_by-map}
 use Rattle.slab_texts.specs.Spans.{span_pieces, tets_below}
 use Rattle.slab_texts.proofs.Spans.{all_of_pieces, pieces_then}
 

@@ -17,7 +17,9 @@ use Rattle.definitions.specs.Values.{Field}
 use Rattle.dihedral.specs.Fractions.{IsAngle}
 use Rattle.dihedral.proofs.AnglesAreFractions.{six_are_angles}
 use Rattle.lattice_laws.proofs.Sublists.{all_by_place, all_from_place}
+use Rattle.lattice_laws.proofs.AscendingLists.{all_append}
 use Rattle.std.specs.List.{AllByRecursion}
+use Rattle.list_words.proofs.Lists.{all_left, all_right}
 use Rattle.formats.specs.declared.Frame.{Frame}
 use Rattle.mesh_texts.specs.Nodes.{node_of_key, nodes_of}
 use Rattle.mesh_texts.specs.Lines.{ele_line, ele_lines, node_line, node_lines, renumbered}
@@ -26,7 +28,6 @@ use Rattle.mesh_lists.specs.Parts.{mesh_of, numbered}
 use Rattle.slab_texts.specs.Laws.{AllSlabsJoin, AllSpansAreAll, AllSpansJoin, AnglesAreFractions}
 use Rattle.slab_texts.specs.Spans.{nodes_below, span_angles, span_keys, span_node_lines, span_nodes, span_pieces, span_tet_lines, span_tets, tets_below}
 use Rattle.slab_texts.specs.Texts.{IsMeasured}
-use Rattle.slab_texts.proofs.Adding.{all_left, all_right}
 use Rattle.slab_texts.proofs.Spans.{all_keys, all_of_pieces, keys_then, pieces_then}
 
 -- numbered lists, the second numbered from where the first ends
@@ -174,13 +175,9 @@ module _ {X : Type 0} (d : Dims) (t : ℕ) (some : 0 < t) (F : ℕ → ℕ → L
 
 -- ---- angles
 
-both : {Y : Type 0} (P : Y → Type 0) (ys zs : List Y) → AllByRecursion P ys → AllByRecursion P zs → AllByRecursion P (ys ++ zs)
-both P [] zs a b = b
-both P (y ∷ ys) zs a b = (a.0, both P ys zs a.1 b)
-
 all_numbered : {X Y : Type 0} (P : Y → Type 0) (Q : X → Type 0) (g : ℕ × X → List Y) → ((n : ℕ) (x : X) → Q x → AllByRecursion P (g (n, x))) → (n : ℕ) (xs : List X) → AllByRecursion Q xs → AllByRecursion P (flat_map g (enumerate_from n xs))
 all_numbered P Q g h n [] k = tt
-all_numbered P Q g h n (x ∷ xs) k = both P (g (n, x)) (flat_map g (enumerate_from (n + 1) xs)) (h n x k.0) (all_numbered P Q g h (n + 1) xs k.1)
+all_numbered P Q g h n (x ∷ xs) k = all_append P (g (n, x)) (flat_map g (enumerate_from (n + 1) xs)) (h n x k.0) (all_numbered P Q g h (n + 1) xs k.1)
 
 pub angles_are_fractions : AnglesAreFractions
 unfolding span_angles

@@ -5,6 +5,8 @@ use Rattle.std.specs.List.{range_with_len}
 use Rattle.std.proofs.lemmas.List.{map-append}
 use Rattle.std.proofs.lemmas.List.Concat.{flat_map-append}
 use Rattle.std.proofs.lemmas.List.Elements.{All-head, All-tail, All-map}
+use Rattle.list_words.proofs.Ranges.{range_add}
+use Rattle.list_words.proofs.Lists.{all_left, all_right}
 use Rattle.definitions.specs.declared.Dims.{Dims}
 use Rattle.definitions.specs.declared.Place.{Place}
 use Rattle.definitions.specs.declared.State.{State}
@@ -12,12 +14,10 @@ use Rattle.definitions.specs.Mesh.{node_keys, number_of}
 use Rattle.definitions.specs.Soundness.{corner_places}
 use Rattle.dihedral.specs.Shapes.{Covers}
 use Rattle.dihedral.specs.Stars.{IsKnown}
-use Rattle.node_laws.proofs.Ranks.{range_split}
 use Rattle.mesh_lists.specs.Parts.{numbered}
 use Rattle.slab_texts.specs.declared.nodes.Nodes.{Nodes}
 use Rattle.slab_texts.specs.Nodes.{AreInRow}
 use Rattle.slab_texts.specs.Texts.{AreAmong, AreMeasuredIn, IsAmong, IsMeasured, Spans}
-use Rattle.slab_texts.proofs.Adding.{all_left, all_right}
 
 -- one of them
 pub one_measured : (n : Nodes) (tets : List (List ℕ)) (i : ℕ) (d : List ℕ) → i < length tets → AreMeasuredIn n tets → AreMeasuredIn n (get_or tets i d ∷ [])
@@ -47,7 +47,7 @@ pub at_id : (P : List ℕ → Type 0) (d : Dims) (ss : List State) (f : ℕ → 
 at_id P d ss f a n b le lt h =
     let g = map (number_of (node_keys d ss)) in
     let here : range_with_len a (b - a) ≡ range_with_len a (n - a) ++ (n ∷ range_with_len (n + 1) (b - n - 1)) =
-    ap (range_with_len a) (sums a n b le lt) ∙ range_split a (n - a) (suc (b - n - 1)) ∙ ap (λ m. range_with_len a (n - a) ++ (m ∷ range_with_len (m + 1) (b - n - 1))) (back a n le)
+    ap (range_with_len a) (sums a n b le lt) ∙ range_add a (n - a) (suc (b - n - 1)) ∙ ap (λ m. range_with_len a (n - a) ++ (m ∷ range_with_len (m + 1) (b - n - 1))) (back a n le)
     in
     let parts : numbered d ss (flat_map f (range_with_len a (b - a))) ≡ map g (flat_map f (range_with_len a (n - a))) ++ (map g (f n) ++ map g (flat_map f (range_with_len (n + 1) (b - n - 1)))) =
     ap (λ l. map g (flat_map f l)) here ∙ ap (map g) (flat_map-append f (range_with_len a (n - a)) (n ∷ range_with_len (n + 1) (b - n - 1)))

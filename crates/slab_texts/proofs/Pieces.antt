@@ -5,6 +5,7 @@ use Rattle.std.specs.List.{AllByRecursion, range_with_len}
 use Rattle.std.proofs.lemmas.List.{append-nil, get_or-map, length-map, map-append}
 use Rattle.std.proofs.lemmas.List.Concat.{flat_map-append}
 use Rattle.std.proofs.lemmas.List.Elements.{All-map}
+use Rattle.list_words.proofs.Ranges.{range_add}
 use Rattle.definitions.specs.declared.Dims.{Dims}
 use Rattle.definitions.specs.declared.State.{State}
 use Rattle.definitions.specs.declared.Vertex.{Vertex}
@@ -13,7 +14,6 @@ use Rattle.definitions.specs.Mesh.{node_keys, number_of, tet_pieces}
 use Rattle.definitions.specs.Tetrahedra.{tets_from}
 use Rattle.lattice_laws.specs.Ascending.{Has}
 use Rattle.lattice_laws.proofs.Sublists.{all_by_place, all_from_place}
-use Rattle.node_laws.proofs.Ranks.{range_split}
 use Rattle.mesh_lists.specs.Layers.{HoldLayers}
 use Rattle.mesh_lists.specs.Parts.{numbered, numbered_from}
 use Rattle.mesh_lists.proofs.LowestNodes.{few_from}
@@ -39,7 +39,7 @@ ids_more d ss f a n le =
     ∙ ap (map g)
     (ap (λ l. flat_map f (range_with_len a (n - a)) ++ l) (sym (append-nil (f n)) ∙ ap (λ m. flat_map f (range_with_len m 1)) (let e : n ≡ a + (n - a) = omega arith in e))
     ∙ sym (flat_map-append f (range_with_len a (n - a)) (range_with_len (a + (n - a)) 1))
-    ∙ ap (flat_map f) (sym (range_split a (n - a) 1))
+    ∙ ap (flat_map f) (sym (range_add a (n - a) 1))
     ∙ ap (λ m. flat_map f (range_with_len a m)) (let e : (n - a) + 1 ≡ n + 1 - a = omega arith in e))
 
 pub no_ids : (d : Dims) (ss : List State) (f : ℕ → List (List ℕ)) (a : ℕ) → [] ≡ numbered d ss (flat_map f (range_with_len a (a - a)))

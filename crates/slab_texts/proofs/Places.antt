@@ -1,5 +1,5 @@
 -- The keys and the places of the nodes of some ids.
-use Rattle.std.proofs.Common.{◌≡◌, ℕ, ◌+◌, ◌-◌, ◌*◌, ◌^◌, ◌<◌, ◌≤◌, arith, sym, ◌∙◌, ap, subst, Bool, List, ◌++◌, map, length, length-append, get_or, All}
+use Rattle.std.proofs.Common.{◌≡◌, ℕ, ◌+◌, ◌-◌, ◌*◌, ◌^◌, ◌<◌, ◌≤◌, arith, sym, ◌∙◌, ap, subst, Bool, List, ◌++◌, map, length, length-append, get_or}
 use Rattle.std.specs.Prelude.{filter, pos}
 use Rattle.std.specs.List.{range_with_len}
 use Rattle.std.proofs.lemmas.List.{get_or_append_left, get_or-append_right, length-map, map-append}
@@ -16,7 +16,6 @@ use Rattle.mesh_lists.specs.Parts.{keys_of_ids, mesh_of}
 use Rattle.mesh_lists.proofs.Sizes.{few_keys}
 use Rattle.vertex_numbers.specs.Numbering.{nodes_before}
 use Rattle.slab_texts.specs.Nodes.{AreInRow}
-use Rattle.slab_texts.proofs.Adding.{all_left, all_right}
 
 module _ (d : Dims) (ss : List State) where
   abbrev occ : ℕ → Bool

@@ -1,8 +1,10 @@
 -- The nodes and the tetrahedra of layers by the ids of their vertices.
-use Rattle.std.proofs.Common.{◌≡◌, ℕ, zero, suc, ◌+◌, ◌-◌, ◌*◌, ◌<◌, ◌≤◌, arith, refl, sym, ◌∙◌, ap, Bool, List, [], ◌∷◌, ◌++◌, map, length}
+use Rattle.std.proofs.Common.{◌≡◌, ℕ, zero, suc, ◌+◌, ◌-◌, ◌*◌, ◌<◌, ◌≤◌, arith, sym, ◌∙◌, ap, Bool, List, ◌++◌, length}
 use Rattle.std.specs.Prelude.{filter, flat_map}
 use Rattle.std.specs.List.{range_with_len}
 use Rattle.std.proofs.lemmas.List.Concat.{flat_map-append}
+use Rattle.std.proofs.lemmas.List.Folds.{flat_map-map}
+use Rattle.list_words.proofs.Ranges.{range_add}
 use Rattle.definitions.specs.declared.Dims.{Dims}
 use Rattle.definitions.specs.declared.State.{State}
 use Rattle.definitions.specs.Lattice.{IsDims, layer, layers, vertex_at}
@@ -11,17 +13,13 @@ use Rattle.definitions.specs.Mesh.{all_pieces, layer_node_keys, layer_pieces, no
 use Rattle.definitions.specs.Tetrahedra.{tets_from}
 use Rattle.node_laws.proofs.Layers.{keys_join, layers_have_keys, next_start}
 use Rattle.node_laws.proofs.Pieces.{flat_map_twice, pieces_join}
-use Rattle.node_laws.proofs.Ranks.{filter_split, range_split}
+use Rattle.node_laws.proofs.Ranks.{filter_split}
 use Rattle.vertex_numbers.specs.Numbering.{nodes_before}
 use Rattle.vertex_numbers.proofs.LayerIds.{layer_by_ids}
 use Rattle.vertex_numbers.proofs.LayerStarts.{no_layers, starts_rise}
 use Rattle.mesh_lists.specs.Parts.{keys_of_ids}
 use Rattle.slab_texts.specs.Nodes.{pieces_at}
 use Rattle.slab_texts.specs.Spans.{nodes_below, span_keys, span_pieces}
-
-flat_map_map : {X Y Z : Type 0} (f : Y → List Z) (g : X → Y) (xs : List X) → flat_map f (map g xs) ≡ flat_map (λ x. f (g x)) xs
-flat_map_map f g [] = refl
-flat_map_map f g (x ∷ xs) = ap (λ l. f (g x) ++ l) (flat_map_map f g xs)
 
 -- lists over two ranges in a row
 join_filters : (p : ℕ → Bool) (a m b k t : ℕ) → a + m ≡ b → m + k ≡ t → filter p (range_with_len a m) ++ filter p (range_with_len b k) ≡ filter p (range_with_len a t)
@@ -30,7 +28,7 @@ join_filters p a m b k t e f = ap (λ z. filter p (range_with_len a m) ++ filter
 join_maps : {X : Type 0} (f : ℕ → List X) (a m b k t : ℕ) → a + m ≡ b → m + k ≡ t → flat_map f (range_with_len a m) ++ flat_map f (range_with_len b k) ≡ flat_map f (range_with_len a t)
 join_maps f a m b k t e g =
     ap (λ z. flat_map f (range_with_len a m) ++ flat_map f (range_with_len z k)) (sym e)
-    ∙ sym (ap (flat_map f) (range_split a m k) ∙ flat_map-append f (range_with_len a m) (range_with_len (a + m) k)) ∙ ap (λ z. flat_map f (range_with_len a z)) g
+    ∙ sym (ap (flat_map f) (range_add a m k) ∙ flat_map-append f (range_with_len a m) (range_with_len (a + m) k)) ∙ ap (λ z. flat_map f (range_with_len a z)) g
 
 -- the rest of a range behind a first part
 rest_of : (s l u t : ℕ) → u ≡ s + l → u ≤ t → l + (t - u) ≡ t - s
@@ -103,7 +101,7 @@ module _ (d : Dims) (ss : List State) where
     of_layer h lt =
         flat_map_twice (tet_pieces d ss) (tets_from d) (layer d h)
         ∙ ap (flat_map (λ v. flat_map (tet_pieces d ss) (tets_from d v))) (layer_by_ids d is h lt)
-        ∙ flat_map_map (λ v. flat_map (tet_pieces d ss) (tets_from d v)) (vertex_at d) (range_with_len (layer_start d h) (layer_len d h))
+        ∙ flat_map-map (λ v. flat_map (tet_pieces d ss) (tets_from d v)) (vertex_at d) (range_with_len (layer_start d h) (layer_len d h))
 
     pieces_from : (from n to : ℕ) → from + n ≡ to → to ≤ layers d → flat_map (layer_pieces d ss) (range_with_len from n) ≡ flat_map (pieces_at d ss) (range_with_len (layer_start d from) (layer_start d to - layer_start d from))
     pieces_from from zero to e le =

@@ -1,5 +1,7 @@
-//! Fields of small images, for tests.
+//! Fields of small images, and the mesh of one sample, for tests.
 #![tactic(auto)]
+
+mod files;
 
 ghost use Rattle.std.specs.Prelude.{◌≡◌, ◌≤◌, ◌≤ℤ◌, ◌<◌, ◌^◌, All, IfSome, length, negsuc, pos};
 ghost use Rattle.std.specs.Bool.{OnTrue};
@@ -7,6 +9,10 @@ ghost use Rattle.definitions.specs.Lattice.{vertices};
 ghost use Rattle.formats.specs.declared.Kind.TheVariants.{Short};
 
 use bcc_lattice::vertex_count;
+pub use files::{
+    ONE_SAMPLE_ELE_FILE, ONE_SAMPLE_ELE_FILE_FROM_ONE, ONE_SAMPLE_NODE_FILE,
+    ONE_SAMPLE_NODE_FILE_FROM_ONE, ONE_SAMPLE_TETS,
+};
 use phantom::phantom;
 use samples::{Field, Level};
 use st_base::{Dims, Kind, Samples, Volume};

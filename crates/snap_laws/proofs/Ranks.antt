@@ -3,14 +3,15 @@ use Rattle.std.proofs.Common.{◌≡◌, ℕ, zero, suc, ◌+◌, ◌-◌, ◌*�
 use Rattle.std.specs.Prelude.{if◌then◌else◌}
 use Rattle.std.specs.Option.{option_map_or}
 use Rattle.std.proofs.lemmas.Bool.Decides.{nat_tests}
+use Rattle.std.proofs.lemmas.Bool.{and_parts, leb-true, leb-false}
 use Rattle.definitions.specs.declared.Dims.{Dims}
 use Rattle.definitions.specs.declared.Vertex.{Vertex}
 use Rattle.definitions.specs.Lattice.{InDomain, neighbour, moved, step, before, id, key, are_neighbours}
 use Rattle.definitions.specs.States.{is_up, direction_of}
 use Rattle.lattice_laws.specs.FiniteTests.{below}
-use Rattle.lattice_laws.proofs.Booleans.{both_true, implied}
+use Rattle.lattice_laws.proofs.Booleans.{implied}
 use Rattle.lattice_laws.proofs.FiniteTests.{below_at}
-use Rattle.lattice_laws.proofs.Lists.{tests_of_order, compared, at_most_from_test, above_from_test}
+use Rattle.lattice_laws.proofs.Lists.{tests_of_order, compared}
 use Rattle.lattice_laws.proofs.Steps.{after_step_1, after_step_2, after_step_3, after_step_4, after_step_5, after_step_6, after_step_7}
 use Rattle.lattice_laws.proofs.LaterNeighbours.{neighbour_leads, steps_lead_later}
 use Rattle.lattice_laws.proofs.EdgeSteps.{from_back}
@@ -74,13 +75,13 @@ module _ (d : Dims) (v : Vertex) (inside : InDomain d v) where
     where
       go : (b : Bool) → is_up edge ≡ b → Side edge w
       go true e =
-          upwards (at_most_from_test edge 7 e)
+          upwards (leb-true edge 7 e)
           (λ i. if e i then 8 * id d v + (if e i then edge else edge - 7) else option_map_or (λ u. key d u (direction_of edge)) (neighbour d v (direction_of edge) false) 0)
           (λ i. if e i then edge + 7 else 15 - edge)
       go false e =
           let n : neighbour d v (edge - 7) false ≡ Some w = sym (λ i. neighbour d v (if e i then edge else edge - 7) (e i)) ∙ k.leads in
           let l = neighbour_leads d v w (edge - 7) false n in
-          let low : 7 < edge = above_from_test edge 7 e in
+          let low : 7 < edge = leb-false edge 7 e in
           let high = k.high in
           downwards (omega arith)
           ((λ i. if e i then key d v (direction_of edge) else option_map_or (λ u. 8 * id d u + (if e i then edge else edge - 7)) (neighbour d v (if e i then edge else edge - 7) false) 0)
@@ -89,7 +90,7 @@ module _ (d : Dims) (v : Vertex) (inside : InDomain d v) where
           (from_back (edge - 7) v w (omega arith) (omega arith) l.0) (domain_out d w l.1)
 
   id_below : (edge : ℕ) (w : Vertex) → 8 ≤ edge → edge ≤ 14 → moved w (step (edge - 7)) ≡ Some v → InDomain d w → id d w < id d v
-  id_below edge w low high e h = id_before d w v h inside (both_true (before w v) (are_neighbours w v) (steps_lead_later (edge - 7) w v (omega arith) (omega arith) e)).0
+  id_below edge w low high e h = id_before d w v h inside (and_parts (before w v) (are_neighbours w v) (steps_lead_later (edge - 7) w v (omega arith) (omega arith) e)).0
 
   keys_rise : (e e' : ℕ) (w w' : Vertex) → IsEdge e w → IsEdge e' w' → rank e < rank e' → key_of e < key_of e'
   keys_rise e e' w w' k k' lt = elim (side e w k) [

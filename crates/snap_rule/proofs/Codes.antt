@@ -10,9 +10,9 @@ use Rattle.definitions.specs.declared.State.TheVariants as state
 use Rattle.definitions.specs.Lattice.{IsDims, InDomain, vertices}
 use Rattle.definitions.specs.Values.{Field}
 use Rattle.definitions.specs.States.{IsState, Shares, code, state_of, states}
-use Rattle.lattice_laws.specs.Ascending.{Has}
 use Rattle.lattice_laws.proofs.Sublists.{all_by_place}
 use Rattle.lattice_laws.proofs.Vertices.{from_vertices}
+use Rattle.lattice_laws.proofs.Members.{all_from_members}
 use Rattle.snap_laws.proofs.StatesAre.{states_are_states}
 use Rattle.snap_rule.specs.Codes.{is_code, state_of_code, AreCodes}
 
@@ -54,16 +54,12 @@ decoded (state.Zero edge k) h =
     passes (inl p) = (λ i. (nat_eq (p.0 i) 0 && nat_eq (p.1 i) 0) || (nat_le 1 (p.0 i) && (nat_le (p.0 i) 14 && nat_le (p.1 i) 4096)))
     passes (inr p) = let a = p.0 in let b = p.1 in let c = p.2 in grind (arith, nat_tests)
 
-members : {X : Type 0} (P : X → Type 0) (xs : List X) → ((x : X) → Has x xs → P x) → AllByRecursion P xs
-members P [] h = tt
-members P (x ∷ xs) h = (h x (inl refl), members P xs (λ y k. h y (inr k)))
-
 module _ (f : Field) (s : Shares) where
   abbrev word_of : Vertex → ℕ
   word_of v = code (state_of f s v)
 
   all_inside : AllByRecursion (InDomain f.dims) (vertices f.dims)
-  all_inside = members (InDomain f.dims) (vertices f.dims) (from_vertices f.dims)
+  all_inside = all_from_members (InDomain f.dims) (vertices f.dims) (from_vertices f.dims)
 
   all_codes : (vs : List Vertex) → AllByRecursion (InDomain f.dims) vs → AllByRecursion (λ word. IsTrue (is_code word)) (map word_of vs)
   all_codes [] h = tt

@@ -1,26 +1,14 @@
 -- Whether a quotient is within a share, without a division.
-use Rattle.std.proofs.Common.{◌≡◌, ℕ, ◌+◌, ◌-◌, ◌*◌, ◌/◌, ◌<◌, ◌≤◌, arith, true, nat_lt, nat_le}
+use Rattle.std.proofs.Common.{◌≡◌, ℕ, ◌+◌, ◌-◌, ◌*◌, ◌/◌, ◌<◌, ◌≤◌, arith, nat_lt, nat_le}
 use Rattle.std.proofs.Math.Nat.{div-lt_iff_lt-mul}
-use Rattle.std.proofs.lemmas.Bool.Decides.{nat_tests}
-use Rattle.lattice_laws.proofs.Booleans.{same_tests}
-
-le_test : (a b : ℕ) → a ≤ b → nat_le a b ≡ true
-le_test a b h = grind (arith, nat_tests)
-
-le_from : (a b : ℕ) → nat_le a b ≡ true → a ≤ b
-le_from a b h = grind (arith, nat_tests)
-
-lt_test : (a b : ℕ) → a < b → nat_lt a b ≡ true
-lt_test a b h = grind (arith, nat_tests)
-
-lt_from : (a b : ℕ) → nat_lt a b ≡ true → a < b
-lt_from a b h = grind (arith, nat_tests)
+use Rattle.std.proofs.lemmas.Bool.{le-leb, leb-true, lt-ltb, ltb-true}
+use Rattle.list_words.proofs.Tests.{same_tests}
 
 -- at most a share from below, and at most a share from the upper end
 pub near_from_below : (whole part share : ℕ) → 0 < part → nat_lt whole (part * (share + 1)) ≡ nat_le (whole / part) share
 near_from_below whole part share some = same_tests (nat_lt whole (part * (share + 1))) (nat_le (whole / part) share)
-    (λ h. le_test (whole / part) share (let l = lt_from whole (part * (share + 1)) h in let q : whole / part < share + 1 = (div-lt_iff_lt-mul some).1 (turn whole part (share + 1) l) in omega arith))
-    (λ h. lt_test whole (part * (share + 1)) (let l = le_from (whole / part) share h in let q : whole / part < share + 1 = omega arith in let m = (div-lt_iff_lt-mul some).0 q in back whole part (share + 1) m))
+    (λ h. le-leb (whole / part) share (let l = ltb-true whole (part * (share + 1)) h in let q : whole / part < share + 1 = (div-lt_iff_lt-mul some).1 (turn whole part (share + 1) l) in omega arith))
+    (λ h. lt-ltb whole (part * (share + 1)) (let l = leb-true (whole / part) share h in let q : whole / part < share + 1 = omega arith in let m = (div-lt_iff_lt-mul some).0 q in back whole part (share + 1) m))
   where
     turn : (w p s : ℕ) → w < p * s → w < s * p
     turn w p s h = omega arith
@@ -30,8 +18,8 @@ near_from_below whole part share some = same_tests (nat_lt whole (part * (share 
 
 pub near_from_above : (whole part share : ℕ) → 0 < part → share ≤ 4096 → nat_le (part * (4096 - share)) whole ≡ nat_le (4096 - whole / part) share
 near_from_above whole part share some small = same_tests (nat_le (part * (4096 - share)) whole) (nat_le (4096 - whole / part) share)
-    (λ h. le_test (4096 - whole / part) share (reach (whole / part) share (not_below (whole / part) (4096 - share) (λ q. clash whole part (4096 - share) (le_from (part * (4096 - share)) whole h) ((div-lt_iff_lt-mul some).0 q)))))
-    (λ h. le_test (part * (4096 - share)) whole (not_above whole part (4096 - share) (λ m. past (whole / part) share (le_from (4096 - whole / part) share h) ((div-lt_iff_lt-mul some).1 m))))
+    (λ h. le-leb (4096 - whole / part) share (reach (whole / part) share (not_below (whole / part) (4096 - share) (λ q. clash whole part (4096 - share) (leb-true (part * (4096 - share)) whole h) ((div-lt_iff_lt-mul some).0 q)))))
+    (λ h. le-leb (part * (4096 - share)) whole (not_above whole part (4096 - share) (λ m. past (whole / part) share (leb-true (4096 - whole / part) share h) ((div-lt_iff_lt-mul some).1 m))))
   where
     not_below : (q s : ℕ) → (q < s → ⊥) → s ≤ q
     not_below q s h = grind arith

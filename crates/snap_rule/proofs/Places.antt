@@ -8,7 +8,7 @@ use Rattle.definitions.specs.declared.Vertex.{Vertex}
 use Rattle.definitions.specs.Lattice.{IsDims, layer, layers, vertices, vertex_at}
 use Rattle.definitions.specs.Layout.{layer_len}
 use Rattle.lattice_counts.specs.Counts.{vertex_in_layer}
-use Rattle.lattice_counts.proofs.Ranks.{layer_listed, vertices_listed}
+use Rattle.lattice_counts.proofs.Places.{layer_listed, vertices_listed}
 use Rattle.std.proofs.Math.Nat.{mul-le-mul_right}
 
 -- one more element from place s on

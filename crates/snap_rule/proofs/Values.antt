@@ -1,8 +1,9 @@
 -- Values in 64 bits, and what follows where none has the other sign.
-use Rattle.std.proofs.Common.{◌≡◌, ℕ, ◌≤◌, ◌^◌, ◌-◌, suc, zero, arith, refl, sym, ◌∙◌, ap, Bool, true, false, ◌||◌, List, [], ◌∷◌, get_or, Option, Some, None, ℤ, pos, negsuc, w64, to_z, of_z}
+use Rattle.std.proofs.Common.{◌≡◌, ℕ, ◌≤◌, ◌^◌, ◌-◌, suc, zero, arith, refl, sym, ◌∙◌, ap, Bool, true, false, List, [], ◌∷◌, get_or, Option, Some, None, ℤ, pos, negsuc, w64, to_z, of_z}
 use Rattle.std.specs.Prelude.{unsigned_abs, filter_map, fold, option_and_then, if◌then◌else◌}
 use Rattle.std.specs.List.{list_any, range_with_len, cons_option}
 use Rattle.std.proofs.lemmas.Int.{to_z-of_z, fits_signed_from_abs}
+use Rattle.std.proofs.lemmas.Bool.{or_parts}
 use Rattle.definitions.specs.declared.Near.{Near}
 use Rattle.definitions.specs.declared.Sign.{Sign}
 use Rattle.definitions.specs.declared.Sign.TheVariants.{Minus, Zero, Plus}
@@ -38,16 +39,8 @@ none_here s own other edge e = ap (option_and_then (λ k. near_at s edge k (dist
 
 none_at : (p : ℤ → Bool) (xs : List ℤ) (n : ℕ) → p (pos 0) ≡ false → list_any p xs ≡ false → p (get_or xs n (pos 0)) ≡ false
 none_at p [] n z h = z
-none_at p (x ∷ xs) zero z h = (parts (p x) (list_any p xs) h).0
-  where
-    parts : (a b : Bool) → (a || b) ≡ false → (a ≡ false) × (b ≡ false)
-    parts true b e = cc
-    parts false b e = (refl, e)
-none_at p (x ∷ xs) (suc n) z h = none_at p xs n z (parts (p x) (list_any p xs) h).1
-  where
-    parts : (a b : Bool) → (a || b) ≡ false → (a ≡ false) × (b ≡ false)
-    parts true b e = cc
-    parts false b e = (refl, e)
+none_at p (x ∷ xs) zero z h = (or_parts (p x) (list_any p xs) h).0
+none_at p (x ∷ xs) (suc n) z h = none_at p xs n z (or_parts (p x) (list_any p xs) h).1
 
 zero_is_no_opposite : (own : ℤ) → are_opposite (sign_of own) Zero ≡ false
 zero_is_no_opposite (pos zero) = refl

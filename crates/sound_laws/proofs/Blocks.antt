@@ -2,6 +2,7 @@
 use Rattle.std.specs.Prelude.{ℕ, zero, suc, Bool, true, false, not, ◌&&◌, List, [], ◌∷◌, map, filter, flat_map}
 use Rattle.std.proofs.Common.{◌≡◌, refl, sym, ap, subst, ◌∙◌, inl, inr}
 use Rattle.std.specs.List.{AllByRecursion, list_all}
+use Rattle.std.proofs.lemmas.Bool.{and_parts, not-true, both_ways}
 use Rattle.definitions.specs.declared.Dims.{Dims}
 use Rattle.definitions.specs.declared.Vertex.{Vertex}
 use Rattle.definitions.specs.Lists.{cliques, each_with_later}
@@ -9,7 +10,6 @@ use Rattle.definitions.specs.Lattice.{vertices, before, are_neighbours}
 use Rattle.definitions.specs.Tetrahedra.{lattice_tets, tets_from}
 use Rattle.lattice_laws.specs.Ascending.{Ascends, Has}
 use Rattle.lattice_laws.proofs.AscendingLists.{ascends_append, ascends_filter}
-use Rattle.lattice_laws.proofs.Booleans.{both_true, not_true, not_both}
 use Rattle.lattice_laws.proofs.Members.{from_append, from_flat_map, from_map, all_from_members, all_at}
 use Rattle.lattice_laws.proofs.Vertices.{before_itself, vertices_ascend}
 use Rattle.stencil_laws.specs.Faces.{each_pair}
@@ -35,12 +35,12 @@ ascends_blocks S R f (x ∷ xs) a h k =
 pub ascends_from_test : {X : Type 0} (t : X → X → Bool) (xs : List X) → each_pair (λ x y. not (t x y)) xs ≡ true → Ascends (λ x y. t x y ≡ false) xs
 ascends_from_test t [] e = tt
 ascends_from_test t (x ∷ xs) e =
-    let g = both_true (list_all (λ y. not (t x y)) xs) (each_pair (λ x y. not (t x y)) xs) e in
+    let g = and_parts (list_all (λ y. not (t x y)) xs) (each_pair (λ x y. not (t x y)) xs) e in
     (all xs g.0, ascends_from_test t xs g.1)
   where
     all : (ys : List _) → list_all (λ y. not (t x y)) ys ≡ true → AllByRecursion (λ y. t x y ≡ false) ys
     all [] e = tt
-    all (y ∷ ys) e = let g = both_true (not (t x y)) (list_all (λ y. not (t x y)) ys) e in (not_true (t x y) g.0, all ys g.1)
+    all (y ∷ ys) e = let g = and_parts (not (t x y)) (list_all (λ y. not (t x y)) ys) e in (not-true (t x y) g.0, all ys g.1)
 
 -- ---- lists without repeats
 abbrev pub Differ : {X : Type 0} → X → X → Type 0
@@ -75,7 +75,7 @@ cliques_differ R (suc n) xs a = go (cliques_differ R n) xs a
         all_at (Differ x) q.0 xs a.0 q.1 (same_heads x q.0 r.0 q.2 (r.2 ∙ e ∙ sym q.3)).0))))
 
 before_differ : (u v : Vertex) → before u v ≡ true → u ≡ v → ⊥
-before_differ u v b e = not_both (before u v) b (ap (before u) (sym e) ∙ before_itself u)
+before_differ u v b e = both_ways (before u v) (ap (before u) (sym e) ∙ before_itself u) b
 
 -- each lattice tetrahedron is listed once
 pub lattice_tets_differ : (d : Dims) → Ascends Differ (lattice_tets d)

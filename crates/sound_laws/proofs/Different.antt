@@ -1,8 +1,8 @@
 -- No two tetrahedra of the mesh have the same nodes: two pieces of one lattice tetrahedron differ, and a piece's nodes tell all four vertices of its lattice tetrahedron.
-use Rattle.std.specs.Prelude.{ℕ, ◌+◌, ◌*◌, ◌<◌, Bool, true, false, ◌==◌, nat_lt, List, [], ◌∷◌, map, flat_map, slice_index, Some}
+use Rattle.std.specs.Prelude.{ℕ, ◌+◌, ◌*◌, ◌<◌, true, false, ◌==◌, nat_lt, List, [], ◌∷◌, map, flat_map, slice_index, Some}
 use Rattle.std.proofs.Common.{◌≡◌, refl, sym, ap, subst, ◌∙◌, arith, inl, inr, ◌⊎◌}
 use Rattle.std.specs.List.{list_any, list_all, range_with_len}
-use Rattle.std.proofs.lemmas.Bool.{ltb-true, eqb-true}
+use Rattle.std.proofs.lemmas.Bool.{ltb-true, eqb-true, and_parts, or_cases, and_from, both_ways, false_from_ne_true}
 use Rattle.std.proofs.lemmas.List.{length-map}
 use Rattle.definitions.specs.declared.Vertex.{Vertex}
 use Rattle.definitions.specs.declared.Corner.{Corner}
@@ -17,7 +17,6 @@ use Rattle.definitions.specs.Mesh.{mesh}
 use Rattle.definitions.specs.Soundness.{same_nodes, is_in}
 use Rattle.lattice_laws.specs.Ascending.{Has, Ascends}
 use Rattle.lattice_laws.proofs.AscendingLists.{same_members}
-use Rattle.lattice_laws.proofs.Booleans.{both_true, either_true, and_true, not_both}
 use Rattle.lattice_laws.proofs.Directions.{direction_known}
 use Rattle.lattice_laws.proofs.EdgeSteps.{step_to, direction_of_step}
 use Rattle.lattice_laws.proofs.ListedTetrahedra.{lattice_tets_listed}
@@ -77,7 +76,7 @@ module _ (f : Field) where
     same_slot a c ha hc e = go (compared a c)
       where
         never : (a c : ℕ) → a < c → c < 4 → slot tet a ≡ slot tet c → ⊥
-        never a c lt hc e = not_both (before (slot tet a) (slot tet c)) (l.ordered a c (vertex 0 0 0) lt (let e = l.four in omega arith)) (ap (before (slot tet a)) (sym e) ∙ before_itself (slot tet a))
+        never a c lt hc e = both_ways (before (slot tet a) (slot tet c)) (ap (before (slot tet a)) (sym e) ∙ before_itself (slot tet a)) (l.ordered a c (vertex 0 0 0) lt (let e = l.four in omega arith))
 
         go : (a < c) ⊎ ((a ≡ c) ⊎ (c < a)) → a ≡ c
         go (inl h) = absurd (never a c h hc e)
@@ -89,8 +88,8 @@ module _ (f : Field) where
     same_nodes_if (Whole a) (Cut c d) p q h = absurd h
     same_nodes_if (Cut a b) (Whole c) p q h = absurd h
     same_nodes_if (Cut a b) (Cut c d) p q h =
-        let g = both_true (nat_lt a b) (nat_lt b 4) p in
-        let k = both_true (nat_lt c d) (nat_lt d 4) q in
+        let g = and_parts (nat_lt a b) (nat_lt b 4) p in
+        let k = and_parts (nat_lt c d) (nat_lt d 4) q in
         let lt = ltb-true a b g.0 in let hb = ltb-true b 4 g.1 in
         let lt' = ltb-true c d k.0 in let hd = ltb-true d 4 k.1 in
         let x = same_slot a c (omega arith) (omega arith) h.0 in
@@ -107,22 +106,22 @@ module _ (f : Field) where
       eighths : (m n : ℕ) → 8 * m ≡ 8 * n → m ≡ n
       eighths m n e = omega arith
   key_ends tet tet' l l' (Whole a) (Cut c d) p q h =
-      let k = both_true (nat_lt c d) (nat_lt d 4) q in
+      let k = and_parts (nat_lt c d) (nat_lt d 4) q in
       let e = edge_by tet' l' c d (ltb-true c d k.0) (ltb-true d 4 k.1) in
       never (slice_index (map (id f.dims) tet) a) (slice_index (map (id f.dims) tet') c) (direction (slot tet' c) (slot tet' d)) e.0 e.1 h
     where
       never : (m n k : ℕ) → 0 < k → k < 8 → 8 * m ≡ 8 * n + k → ⊥
       never m n k low high e = absurd (omega arith)
   key_ends tet tet' l l' (Cut a b) (Whole c) p q h =
-      let k = both_true (nat_lt a b) (nat_lt b 4) p in
+      let k = and_parts (nat_lt a b) (nat_lt b 4) p in
       let e = edge_by tet l a b (ltb-true a b k.0) (ltb-true b 4 k.1) in
       never (slice_index (map (id f.dims) tet') c) (slice_index (map (id f.dims) tet) a) (direction (slot tet a) (slot tet b)) e.0 e.1 (sym h)
     where
       never : (m n k : ℕ) → 0 < k → k < 8 → 8 * m ≡ 8 * n + k → ⊥
       never m n k low high e = absurd (omega arith)
   key_ends tet tet' l l' (Cut a b) (Cut c d) p q h =
-      let g = both_true (nat_lt a b) (nat_lt b 4) p in
-      let k = both_true (nat_lt c d) (nat_lt d 4) q in
+      let g = and_parts (nat_lt a b) (nat_lt b 4) p in
+      let k = and_parts (nat_lt c d) (nat_lt d 4) q in
       let lt = ltb-true a b g.0 in let hb = ltb-true b 4 g.1 in
       let lt' = ltb-true c d k.0 in let hd = ltb-true d 4 k.1 in
       let ha : a < 4 = omega arith in
@@ -182,9 +181,9 @@ module _ (f : Field) (s : Shares) where
         go (Whole a) (Cut b d) t i h = absurd h
         go (Cut a c) (Whole b) t i h = absurd h
         go (Cut a c) (Cut b d) t i h =
-            let g = both_true (nat_lt b d) (nat_lt d 4) i in
+            let g = and_parts (nat_lt b d) (nat_lt d 4) i in
             let lt = ltb-true b d g.0 in let hd = ltb-true d 4 g.1 in
-            elim (either_true (a == j) (c == j) t) [ inl e ↦ moved_to a b (omega arith) h.0 (eqb-true a j e) | inr e ↦ moved_to c d hd h.1 (eqb-true c j e) ]
+            elim (or_cases (a == j) (c == j) t) [ inl e ↦ moved_to a b (omega arith) h.0 (eqb-true a j e) | inr e ↦ moved_to c d hd h.1 (eqb-true c j e) ]
 
     vertex_found : list_all (is_in (map (node_number f s tet') (oriented tet' q))) (map (node_number f s tet) (oriented tet p)) ≡ true → (v : Vertex) → Has v tet → Has v tet'
     vertex_found h v i =
@@ -195,7 +194,7 @@ module _ (f : Field) (s : Shares) where
   same_tet : (tet tet' : List Vertex) (l : IsLatticeTet f.dims tet) (l' : IsLatticeTet f.dims tet') (p q : List Corner) (m : Has p (case_pieces (signs_of f s tet))) (k : Has q (case_pieces (signs_of f s tet')))
       → same_nodes (map (node_number f s tet) (oriented tet p)) (map (node_number f s tet') (oriented tet' q)) ≡ true → tet ≡ tet'
   same_tet tet tet' l l' p q m k h =
-      let g = both_true (list_all (is_in (map (node_number f s tet') (oriented tet' q))) (map (node_number f s tet) (oriented tet p))) (list_all (is_in (map (node_number f s tet) (oriented tet p))) (map (node_number f s tet') (oriented tet' q))) h in
+      let g = and_parts (list_all (is_in (map (node_number f s tet') (oriented tet' q))) (map (node_number f s tet) (oriented tet p))) (list_all (is_in (map (node_number f s tet) (oriented tet p))) (map (node_number f s tet') (oriented tet' q))) h in
       same_members before before_itself before_back tet tet' (pairs_from_place (λ u w. before u w ≡ true) tet l.ordered) (pairs_from_place (λ u w. before u w ≡ true) tet' l'.ordered)
       (vertex_found tet tet' l l' p q m k g.0) (vertex_found tet' tet l' l q p k m g.1)
 
@@ -214,18 +213,14 @@ module _ (f : Field) (s : Shares) where
 
       all : (l : List Corner) → ((c : Corner) → Has c l → Has c p) → list_all (is_node_of q) l ≡ true
       all [] g = refl
-      all (c ∷ l) g = and_true (is_node_of q c) (list_all (is_node_of q) l) (found c (g c (inl refl))) (all l (λ d i. g d (inr i)))
-
-  false_if : (b : Bool) → (b ≡ true → ⊥) → b ≡ false
-  false_if true h = absurd (h refl)
-  false_if false h = refl
+      all (c ∷ l) g = and_from (is_node_of q c) (list_all (is_node_of q) l) (found c (g c (inl refl))) (all l (λ d i. g d (inr i)))
 
   tets_differ_in : (tet : List Vertex) → IsLatticeTet f.dims tet → Ascends (λ a b. same_nodes a b ≡ false) (tets_of f s tet)
   tets_differ_in tet l =
       ascends_mapped (λ p q. has_all p q ≡ false) (λ a b. same_nodes a b ≡ false) (λ p. map (node_number f s tet) (oriented tet p)) (case_pieces (signs_of f s tet))
       (ascends_from_test has_all (case_pieces (signs_of f s tet)) (pieces_differ (signs_of f s tet) (length-map tet (λ v. sign_of_state (state_of f s v)) ∙ l.four)))
-      (λ p q m k h. false_if (same_nodes (map (node_number f s tet) (oriented tet p)) (map (node_number f s tet) (oriented tet q)))
-      (λ e. not_both (has_all p q) (has_all_if tet l p q m k (both_true (list_all (is_in (map (node_number f s tet) (oriented tet q))) (map (node_number f s tet) (oriented tet p))) (list_all (is_in (map (node_number f s tet) (oriented tet p))) (map (node_number f s tet) (oriented tet q))) e).0) h))
+      (λ p q m k h. false_from_ne_true (same_nodes (map (node_number f s tet) (oriented tet p)) (map (node_number f s tet) (oriented tet q)))
+      (λ e. both_ways (has_all p q) h (has_all_if tet l p q m k (and_parts (list_all (is_in (map (node_number f s tet) (oriented tet q))) (map (node_number f s tet) (oriented tet p))) (list_all (is_in (map (node_number f s tet) (oriented tet p))) (map (node_number f s tet) (oriented tet q))) e).0)))
 
   all_tets_differ : Ascends (λ a b. same_nodes a b ≡ false) (flat_map (tets_of f s) (lattice_tets f.dims))
   all_tets_differ =
@@ -234,7 +229,7 @@ module _ (f : Field) (s : Shares) where
       (λ tet tet' m k h a b i j.
       (let r = from_map (λ p. map (node_number f s tet) (oriented tet p)) a (case_pieces (signs_of f s tet)) i in
       let q = from_map (λ p. map (node_number f s tet') (oriented tet' p)) b (case_pieces (signs_of f s tet')) j in
-      false_if (same_nodes a b) (λ e. h (same_tet tet tet' ((lattice_tets_listed f.dims tet).0 m) ((lattice_tets_listed f.dims tet').0 k) r.0 q.0 r.1 q.1 ((λ t. same_nodes (r.2 t) (q.2 t)) ∙ e)))))
+      false_from_ne_true (same_nodes a b) (λ e. h (same_tet tet tet' ((lattice_tets_listed f.dims tet).0 m) ((lattice_tets_listed f.dims tet').0 k) r.0 q.0 r.1 q.1 ((λ t. same_nodes (r.2 t) (q.2 t)) ∙ e)))))
 
 pub tets_differ : TetsDiffer
 tets_differ f s = pairs_by_place (λ a b. same_nodes a b ≡ false) (mesh f s).tets (subst (Ascends (λ a b. same_nodes a b ≡ false)) (sym (tets_are_pieces f s)) (all_tets_differ f s))

@@ -3,7 +3,7 @@ use Rattle.std.specs.Prelude.{ℕ, zero, suc, ◌+◌, ◌*◌, ◌<◌, true, n
 use Rattle.std.proofs.Common.{◌≡◌, refl, sym, ap, subst, ◌∙◌, arith, inl, inr, ◌⊎◌}
 use Rattle.std.proofs.Math.IntN.{ℤ, pos, ◌+ℤ◌, ◌*ℤ◌, neg_ℤ, nat_abs}
 use Rattle.std.proofs.lemmas.Int.{ints}
-use Rattle.std.proofs.lemmas.Bool.{ltb-true, lt-ltb}
+use Rattle.std.proofs.lemmas.Bool.{ltb-true, lt-ltb, and_parts, and_from}
 use Rattle.std.proofs.lemmas.List.{length-map}
 use Rattle.std.proofs.lemmas.Simd.{map-map}
 use lib.Signed.{◌<ℤ◌, ◌≤ℤ◌}
@@ -26,7 +26,6 @@ use Rattle.exact.proofs.Ring.{ring}
 use Rattle.lattice_laws.specs.Ascending.{Has}
 use Rattle.lattice_laws.specs.Vectors.{Vector, vector, ◌+ᵥ◌, ◌*ᵥ◌}
 use Rattle.lattice_laws.specs.Kinds.{Kind, Slot, slot_0, slot_1, slot_2, slot_3, number_of_slot, vector_of}
-use Rattle.lattice_laws.proofs.Booleans.{both_true, and_true}
 use Rattle.lattice_laws.proofs.Sublists.{all_by_place}
 use Rattle.moved_lattice.specs.WeightedSums.{sum4, combination, total_weight, vertex_of, moved_place}
 use Rattle.moved_lattice.proofs.VertexOrder.{ComesBefore, vertex_rising, in_order}
@@ -100,7 +99,7 @@ module _ (f : Field) (s : Shares) (b : Vector) (κ : Kind) where
   own_slots : (c : Corner) → in_slots c ≡ true → OfNode (λ j. pos 0 <ℤ at_slot j c) c
   own_slots (Whole a) e = (ltb-true a 4 e, entry_whole (cut_on f) (cuts_fit f) (vertex_at b κ) a)
   own_slots (Cut a c) e =
-      let g = both_true (nat_lt a c) (nat_lt c 4) e in
+      let g = and_parts (nat_lt a c) (nat_lt c 4) e in
       let lt = ltb-true a c g.0 in
       let hc = ltb-true c 4 g.1 in
       (lt, hc, entry_first (cut_on f) (cuts_fit f) (vertex_at b κ) a c lt hc, entry_second (cut_on f) (cuts_fit f) (vertex_at b κ) a c lt hc)
@@ -201,7 +200,7 @@ number_by f s u (Cut a c) = number_of (node_keys f.dims (states f s)) (8 * id f.
 number_is : (f : Field) (s : Shares) (tet : List Vertex) → IsLatticeTet f.dims tet → (c : Corner) → in_slots c ≡ true → node_number f s tet c ≡ number_by f s (slot tet) c
 number_is f s tet l (Whole a) e = ap (λ n. number_of (node_keys f.dims (states f s)) (8 * n)) (id_slot f tet l a (ltb-true a 4 e))
 number_is f s tet l (Cut a c) e =
-    let g = both_true (nat_lt a c) (nat_lt c 4) e in
+    let g = and_parts (nat_lt a c) (nat_lt c 4) e in
     let lt = ltb-true a c g.0 in
     let hc = ltb-true c 4 g.1 in
     ap (λ n. number_of (node_keys f.dims (states f s)) (8 * n + direction (slot tet a) (slot tet c))) (id_slot f tet l a (omega arith))
@@ -274,7 +273,7 @@ module _ (f : Field) (s : Shares) (ok : IsShares s) (t u : List ℕ) (o : Parent
 
     renamed_slots : (c : Corner) → OfNode f s q.base q.kind IsMatched c → in_slots (renamed agree.slots c) ≡ true
     renamed_slots (Whole a) h = lt-ltb (agree.slots a) 4 h.1.0
-    renamed_slots (Cut a c) h = and_true (nat_lt (agree.slots a) (agree.slots c)) (nat_lt (agree.slots c) 4) (lt-ltb _ _ (rising a c h.0 h.1 h.2 h.3)) (lt-ltb _ _ h.3.0)
+    renamed_slots (Cut a c) h = and_from (nat_lt (agree.slots a) (agree.slots c)) (nat_lt (agree.slots c) 4) (lt-ltb _ _ (rising a c h.0 h.1 h.2 h.3)) (lt-ltb _ _ h.3.0)
 
     renamed_number : (c : Corner) → in_slots c ≡ true → OfNode f s q.base q.kind IsMatched c → node_number f s q.tet c ≡ node_number f s o.tet (renamed agree.slots c)
     renamed_number c e h = number_is f s q.tet q.lattice c e ∙ (go c h ∙ sym (number_is f s o.tet o.lattice (renamed agree.slots c) (renamed_slots c h)))

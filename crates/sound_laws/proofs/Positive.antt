@@ -3,7 +3,7 @@ use Rattle.std.specs.Prelude.{ℕ, zero, suc, ◌+◌, ◌*◌, ◌<◌, Bool, t
 use Rattle.std.proofs.Common.{◌≡◌, refl, sym, ap, subst, ◌∙◌, arith, inl, inr, ◌⊎◌}
 use Rattle.std.proofs.Math.IntN.{ℤ, pos, negsuc, ◌+ℤ◌, ◌*ℤ◌, neg_ℤ, nat_abs}
 use Rattle.std.proofs.lemmas.Int.{ints}
-use Rattle.std.proofs.lemmas.Bool.{ltb-true}
+use Rattle.std.proofs.lemmas.Bool.{ltb-true, and_parts}
 use Rattle.std.proofs.lemmas.Bool.Decides.{nat_tests}
 use Rattle.std.proofs.lemmas.List.{length-map}
 use Rattle.std.proofs.lemmas.Simd.{map-map}
@@ -34,7 +34,6 @@ use Rattle.lattice_laws.specs.Ascending.{Has}
 use Rattle.lattice_laws.specs.Vectors.{Vector, vector, origin, ◌+ᵥ◌, ◌*ᵥ◌}
 use Rattle.lattice_laws.specs.Kinds.{Kind, Slot, slot_0, slot_1, slot_2, slot_3, slot_of, number_of_slot, vector_of}
 use Rattle.lattice_laws.proofs.Volumes.{det_by_rows, det_swap}
-use Rattle.lattice_laws.proofs.Booleans.{both_true}
 use Rattle.moved_lattice.specs.WeightedSums.{sum4, combination, volume_of_four}
 use Rattle.moved_lattice.specs.MovedMatrix.{others}
 use Rattle.stencil_laws.specs.NodeRows.{cut_variable, in_column, moved_row, AreCutNumbers, entry_of, order_sign}
@@ -245,7 +244,7 @@ module _ (f : Field) (s : Shares) (ok : IsShares s) (b : Vector) (κ : Kind) whe
         doubled : (n : ℕ) → pos 2048 *ℤ pos (2 * n) ≡ pos 4096 *ℤ pos n
         doubled n = omega (arith, ints)
     middle_has_row (Cut a c) e =
-        let g = both_true (nat_lt a c) (nat_lt c 4) e in
+        let g = and_parts (nat_lt a c) (nat_lt c 4) e in
         let lt = ltb-true a c g.0 in
         let hc = ltb-true c 4 g.1 in
         let ha : a < 4 = omega arith in

@@ -13,7 +13,7 @@ use Rattle.node_laws.proofs.Padding.{states_are_padded}
 use Rattle.node_laws.proofs.PlusVertices.{plus_vertices_are_nodes, minus_vertices_are_no_nodes}
 use Rattle.face_laws.proofs.NumberedBoundary.{mesh_boundary_is_level}
 use Rattle.parent_laws.specs.Parents.{Parent, node_number}
-use Rattle.parent_laws.proofs.OrientedPieces.{length_oriented}
+use Rattle.stencil_laws.proofs.OrientedPieces.{length_oriented}
 use Rattle.parent_laws.proofs.Parents.{tets_have_parents}
 use Rattle.sound_laws.specs.Laws.{BoundaryIsClosed, MeshIsSound}
 use Rattle.sound_laws.proofs.Positive.{tets_are_positive}

@@ -3,7 +3,7 @@ use Rattle.std.specs.Prelude.{ℕ, zero, suc, ◌+◌, ◌*◌, ◌<◌, Bool, t
 use Rattle.std.proofs.Common.{◌≡◌, refl, sym, ap, subst, ◌∙◌, arith, inl, inr, ◌⊎◌}
 use Rattle.std.proofs.Math.IntN.{ℤ, pos, ◌+ℤ◌, ◌*ℤ◌}
 use Rattle.std.proofs.lemmas.Int.{ints}
-use Rattle.std.proofs.lemmas.Bool.{ltb-true}
+use Rattle.std.proofs.lemmas.Bool.{ltb-true, and_parts}
 use Rattle.std.proofs.lemmas.List.Sums.{sum_by-cons}
 use Rattle.definitions.specs.declared.Vertex.{Vertex}
 use Rattle.definitions.specs.declared.Place.{Place}
@@ -19,7 +19,6 @@ use Rattle.exact.proofs.Ring.{ring}
 use Rattle.lattice_laws.specs.Ascending.{Has}
 use Rattle.lattice_laws.specs.Vectors.{vector}
 use Rattle.lattice_laws.specs.Kinds.{Slot, slot_0, slot_1, slot_2, slot_3}
-use Rattle.lattice_laws.proofs.Booleans.{both_true}
 use Rattle.lattice_laws.proofs.KeyOrder.{corner_from_same}
 use Rattle.moved_lattice.specs.WeightedSums.{sum4}
 use Rattle.stencil_laws.specs.Weights.{weighted_sum, weight_at}
@@ -124,7 +123,7 @@ count_cut a b h i = absurd (omega arith)
 
 count_one : (c : Corner) → in_slots c ≡ true → count_of c corners ≡ 1
 count_one (Whole a) e = count_whole a (ltb-true a 4 e)
-count_one (Cut a b) e = let g = both_true (nat_lt a b) (nat_lt b 4) e in count_cut a b (ltb-true a b g.0) (ltb-true b 4 g.1)
+count_one (Cut a b) e = let g = and_parts (nat_lt a b) (nat_lt b 4) e in count_cut a b (ltb-true a b g.0) (ltb-true b 4 g.1)
 
 -- of each node with a weight a fact holds
 abbrev pub WhereWeighted : (Corner → Type 0) → List ℕ → List Corner → Type 0

@@ -1,17 +1,16 @@
 -- Each lattice tetrahedron is a step away from one of six: what holds of these holds of all.
-use Rattle.std.proofs.Common.{◌≡◌, ℕ, zero, suc, ◌<◌, List, [], ◌∷◌, length, refl, sym, ap, ◌∙◌, arith, subst}
-use Rattle.std.specs.Prelude.{AllPairs, IsTrue}
+use Rattle.std.proofs.Common.{◌≡◌, ℕ, List, [], ◌∷◌, refl, sym, ap, ◌∙◌, arith, subst}
 use Rattle.std.proofs.Math.IntN.{ℤ, pos, negsuc, ◌+ℤ◌}
 use Rattle.std.proofs.lemmas.Int.{ints}
 use Rattle.definitions.specs.declared.Vertex.{Vertex}
-use Rattle.definitions.specs.Lattice.{vertex, before, are_neighbours}
+use Rattle.definitions.specs.Lattice.{vertex}
 use Rattle.definitions.specs.Pieces.{slot}
 use Rattle.lattice_laws.specs.Kinds.{Kind, kind_146, kind_256, kind_347, kind_357, kind_467, kind_567, KindOfTet, tet_of_kind, vector_of, offset, slot_1, slot_2, slot_3}
 use Rattle.lattice_laws.specs.Vectors.{Vector, vector, ◌+ᵥ◌, x_of, y_of, z_of}
 use Rattle.lattice_laws.specs.NumberedTetrahedra.{IsNumberedTet}
-use Rattle.lattice_laws.proofs.SixKinds.{kind_of_tet}
+use Rattle.lattice_laws.proofs.SixKinds.{numbered_kind}
 use Rattle.stencils.proofs.Translated.{IsMoved}
-use Rattle.lattice_laws.proofs.Lists.{four_of}
+use Rattle.lattice_laws.proofs.Lists.{below_four}
 
 -- a tetrahedron of each kind
 abbrev pub kind_model : Kind → List Vertex
@@ -43,13 +42,6 @@ model_steps : (κ : Kind) → (vector_of (slot (kind_model κ) 1) ≡ vector (po
 model_steps kind_146 = (refl, refl, refl, refl)
 model_steps κ = (refl, refl, refl, refl)
 
-by_slot : (P : ℕ → Type 0) → P 0 → P 1 → P 2 → P 3 → (n : ℕ) → n < 4 → P n
-by_slot P a b c d zero h = a
-by_slot P a b c d (suc zero) h = b
-by_slot P a b c d (suc (suc zero)) h = c
-by_slot P a b c d (suc (suc (suc zero))) h = d
-by_slot P a b c d (suc (suc (suc (suc n)))) h = absurd (omega arith)
-
 moved_from : (t u v w : Vertex) → KindOfTet t u v w → HasKind (t ∷ u ∷ v ∷ w ∷ [])
 moved_from t u v w (tet_of_kind κ e1 e2 e3) =
     let s = model_steps κ in
@@ -57,24 +49,15 @@ moved_from t u v w (tet_of_kind κ e1 e2 e3) =
       kind = κ;
       step = from_two t;
       moved = record {
-        x = by_slot (λ n. pos (slot (t ∷ u ∷ v ∷ w ∷ []) n).x ≡ pos (slot (kind_model κ) n).x +ℤ (pos t.x +ℤ negsuc 1))
+        x = below_four (λ n. pos (slot (t ∷ u ∷ v ∷ w ∷ []) n).x ≡ pos (slot (kind_model κ) n).x +ℤ (pos t.x +ℤ negsuc 1))
             (at_first t.x ∙ (λ i. pos (sym s.3 i).x +ℤ (pos t.x +ℤ negsuc 1))) (at_later _ _ _ _ (ap x_of e1) (ap x_of s.0)) (at_later _ _ _ _ (ap x_of e2) (ap x_of s.1)) (at_later _ _ _ _ (ap x_of e3) (ap x_of s.2));
-        y = by_slot (λ n. pos (slot (t ∷ u ∷ v ∷ w ∷ []) n).y ≡ pos (slot (kind_model κ) n).y +ℤ (pos t.y +ℤ negsuc 1))
+        y = below_four (λ n. pos (slot (t ∷ u ∷ v ∷ w ∷ []) n).y ≡ pos (slot (kind_model κ) n).y +ℤ (pos t.y +ℤ negsuc 1))
             (at_first t.y ∙ (λ i. pos (sym s.3 i).y +ℤ (pos t.y +ℤ negsuc 1))) (at_later _ _ _ _ (ap y_of e1) (ap y_of s.0)) (at_later _ _ _ _ (ap y_of e2) (ap y_of s.1)) (at_later _ _ _ _ (ap y_of e3) (ap y_of s.2));
-        h = by_slot (λ n. pos (slot (t ∷ u ∷ v ∷ w ∷ []) n).h ≡ pos (slot (kind_model κ) n).h +ℤ (pos t.h +ℤ negsuc 1))
+        h = below_four (λ n. pos (slot (t ∷ u ∷ v ∷ w ∷ []) n).h ≡ pos (slot (kind_model κ) n).h +ℤ (pos t.h +ℤ negsuc 1))
             (at_first t.h ∙ (λ i. pos (sym s.3 i).h +ℤ (pos t.h +ℤ negsuc 1))) (at_later _ _ _ _ (ap z_of e1) (ap z_of s.0)) (at_later _ _ _ _ (ap z_of e2) (ap z_of s.1)) (at_later _ _ _ _ (ap z_of e3) (ap z_of s.2));
       };
     }
 
-kind_at : (t u v w : Vertex) → AllPairs (λ u v. IsTrue (before u v)) (t ∷ u ∷ v ∷ w ∷ []) → AllPairs (λ u v. IsTrue (are_neighbours u v)) (t ∷ u ∷ v ∷ w ∷ []) → HasKind (t ∷ u ∷ v ∷ w ∷ [])
-kind_at t u v w b n =
-    moved_from t u v w (kind_of_tet t u v w
-    (b 0 1 t (omega arith) (omega arith)) (b 0 2 t (omega arith) (omega arith)) (b 0 3 t (omega arith) (omega arith)) (b 1 2 t (omega arith) (omega arith)) (b 1 3 t (omega arith) (omega arith)) (b 2 3 t (omega arith) (omega arith))
-    (n 0 1 t (omega arith) (omega arith)) (n 0 2 t (omega arith) (omega arith)) (n 0 3 t (omega arith) (omega arith)) (n 1 2 t (omega arith) (omega arith)) (n 1 3 t (omega arith) (omega arith)) (n 2 3 t (omega arith) (omega arith)))
-
 -- each lattice tetrahedron has a kind
 pub has_kind : (tet : List Vertex) (ids : List ℕ) → IsNumberedTet tet ids → HasKind tet
-has_kind tet ids h =
-    let v = four_of tet h.four in
-    subst (λ (vs : List Vertex). HasKind vs) (sym v.4)
-    (kind_at v.0 v.1 v.2 v.3 (subst (λ (vs : List Vertex). AllPairs (λ u v. IsTrue (before u v)) vs) v.4 h.ordered) (subst (λ (vs : List Vertex). AllPairs (λ u v. IsTrue (are_neighbours u v)) vs) v.4 h.neighbours))
+has_kind tet ids h = let k = numbered_kind tet ids h in subst (λ (vs : List Vertex). HasKind vs) (sym k.4) (moved_from k.0 k.1 k.2 k.3 k.5)

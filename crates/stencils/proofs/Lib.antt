@@ -1,4 +1,3 @@
-pub mod Corners
 pub mod Table
 pub mod Translated
 pub mod KindModels

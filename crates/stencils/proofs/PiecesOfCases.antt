@@ -2,7 +2,7 @@
 use Rattle.std.proofs.Common.{◌≡◌, ℕ, Bool, true, false, ◌&&◌, nat_lt, List, [], ◌∷◌, length, map, take, refl, sym, ap, subst, ◌∙◌, if◌then◌else◌}
 use Rattle.std.specs.Prelude.{slice_index}
 use Rattle.std.specs.List.{list_all}
-use Rattle.std.proofs.lemmas.Bool.{ltb-true}
+use Rattle.std.proofs.lemmas.Bool.{ltb-true, and_parts}
 use Rattle.std.proofs.lemmas.List.{get_or-map, length-map, take-map}
 use Rattle.std.proofs.lemmas.Simd.{map-map}
 use Rattle.definitions.specs.declared.Vertex.{Vertex}
@@ -16,7 +16,6 @@ use Rattle.lattice_laws.specs.FiniteTests.{every_case}
 use Rattle.lattice_laws.specs.Kinds.{Kind, kind_146}
 use Rattle.lattice_laws.specs.Vectors.{Vector}
 use Rattle.lattice_laws.specs.NumberedTetrahedra.{IsNumberedTet}
-use Rattle.lattice_laws.proofs.Booleans.{both_true}
 use Rattle.lattice_laws.proofs.FiniteTests.{each_case}
 use Rattle.lattice_laws.proofs.KeyOrder.{pieces_by_table}
 use Rattle.stencils.specs.declared.cases.Case.{Case}
@@ -24,7 +23,7 @@ use Rattle.stencils.specs.declared.cases.Row.{Row}
 use Rattle.stencils.specs.declared.frames.Frame.{Frame}
 use Rattle.stencils.specs.Cases.{is_turned, model, case_pieces, corner_at, listed, has_places, IsCase, FitsCase}
 use Rattle.stencils.specs.Frames.{ten_keys, edge_directions, FitsFrame}
-use Rattle.stencils.proofs.Corners.{same_piece, piece_from_same}
+use Rattle.lattice_laws.proofs.SamePieces.{same_piece, piece_from_same}
 use Rattle.stencils.proofs.Translated.{IsMoved, is_four, oriented_same}
 use Rattle.stencils.proofs.KindModels.{kind_model, has_kind}
 use Rattle.stencils.proofs.FramesOfKinds.{turned_same}
@@ -46,8 +45,8 @@ module _ (tet base : List Vertex) (s : Vector) (m : IsMoved tet base s) (turned 
   oriented_as_model : (ps : List (List Corner)) → list_all (is_as_model base turned) ps ≡ true → map (oriented tet) ps ≡ map (oriented (model turned)) ps
   oriented_as_model [] e = refl
   oriented_as_model (p ∷ ps) e =
-      let f = both_true (is_as_model base turned p) _ e in
-      let g = both_true (is_four p) _ f.0 in
+      let f = and_parts (is_as_model base turned p) _ e in
+      let g = and_parts (is_four p) _ f.0 in
       λ i. (oriented_same tet base s m p g.0 ∙ piece_from_same _ _ g.1) i ∷ oriented_as_model ps f.1 i
 
 pub case_of_tet : (tet : List Vertex) (ids : List ℕ) (signs : List Sign) → IsNumberedTet tet ids → length signs ≡ 4 → map (oriented tet) (unoriented signs) ≡ case_pieces (is_turned tet) signs
@@ -72,14 +71,14 @@ module _ (key : Corner → ℕ) where
   keys_of_places : (p : List ℕ) → list_all (λ n. nat_lt n 10) p ≡ true → map (λ n. slice_index (map key corners) n) p ≡ map key (map corner_at p)
   keys_of_places [] e = refl
   keys_of_places (n ∷ p) e =
-      let f = both_true (nat_lt n 10) _ e in
+      let f = and_parts (nat_lt n 10) _ e in
       let l = ltb-true _ _ f.0 in
       λ i. get_or-map key corners n (Whole 4) 0 l i ∷ keys_of_places p f.1 i
 
   keys_of_lists : (ps : List (List ℕ)) → list_all (list_all (λ n. nat_lt n 10)) ps ≡ true → map (map (λ n. slice_index (map key corners) n)) ps ≡ map (map key) (map (map corner_at) ps)
   keys_of_lists [] e = refl
   keys_of_lists (p ∷ ps) e =
-      let f = both_true (list_all (λ n. nat_lt n 10) p) _ e in
+      let f = and_parts (list_all (λ n. nat_lt n 10) p) _ e in
       λ i. keys_of_places p f.0 i ∷ keys_of_lists ps f.1 i
 
   -- an entry's places, as keys and as nodes

@@ -1,19 +1,18 @@
 -- Each of the 81 rows of the table has the pieces of its signs: one computation, and its use at four signs.
 use Rattle.std.proofs.Common.{◌≡◌, ℕ, Bool, true, false, ◌&&◌, nat_eq, List, [], length, map, refl}
-use Rattle.std.proofs.lemmas.Bool.{eqb-true}
+use Rattle.std.proofs.lemmas.Bool.{eqb-true, and_parts}
 use Rattle.std.specs.Prelude.{slice_index_or}
 use Rattle.definitions.specs.declared.Sign.{Sign}
 use Rattle.definitions.specs.Stencils.{kept, facets}
 use Rattle.definitions.specs.Facets.{fill}
 use Rattle.definitions.specs.Pieces.{oriented}
 use Rattle.lattice_laws.specs.FiniteTests.{every_case}
-use Rattle.lattice_laws.proofs.Booleans.{both_true}
 use Rattle.lattice_laws.proofs.FiniteTests.{each_case}
 use Rattle.stencils.specs.declared.cases.Case.{Case}
 use Rattle.stencils.specs.declared.cases.Row.{Row}
 use Rattle.stencils.specs.declared.cases.TheConstants.{ROWS}
 use Rattle.stencils.specs.Cases.{case_pieces, corner_at, listed, has_places, IsCase, FitsCase, row_place}
-use Rattle.stencils.proofs.Corners.{same_pieces, pieces_from_same}
+use Rattle.lattice_laws.proofs.SamePieces.{same_pieces, pieces_from_same}
 
 abbrev pub no_case : Case
 no_case = record { len = 0; of = [] }
@@ -33,12 +32,12 @@ all_rows_fit = refl
 
 from_test : (turned : Bool) (signs : List Sign) (case : Case) → is_case turned signs case ≡ true → IsCase turned signs case
 from_test turned signs case e =
-    let f = both_true (same_pieces (map (map corner_at) (listed case)) (case_pieces turned signs)) _ e in
-    let g = both_true (has_places case) _ f.1 in
+    let f = and_parts (same_pieces (map (map corner_at) (listed case)) (case_pieces turned signs)) _ e in
+    let g = and_parts (has_places case) _ f.1 in
     record { pieces = pieces_from_same _ _ f.0; places = g.0; count = eqb-true _ _ g.1 }
 
 pub row_fits : (signs : List Sign) → length signs ≡ 4 → FitsCase signs (row_at (row_place signs))
 row_fits signs len =
     let e = each_case (λ signs. is_row signs (row_at (row_place signs))) all_rows_fit signs len in
-    let f = both_true (is_case false signs (row_at (row_place signs)).straight) _ e in
+    let f = and_parts (is_case false signs (row_at (row_place signs)).straight) _ e in
     record { straight = from_test _ _ _ f.0; turned = from_test _ _ _ f.1 }

@@ -5,7 +5,7 @@ use Rattle.std.specs.List.{position_from}
 use Rattle.std.specs.Ordering.{int_eq}
 use Rattle.std.proofs.Math.IntN.{ℤ, pos, ◌+ℤ◌}
 use Rattle.std.proofs.lemmas.Int.{ints}
-use Rattle.std.proofs.lemmas.Bool.{ltb-true}
+use Rattle.std.proofs.lemmas.Bool.{ltb-true, and_parts}
 use Rattle.std.proofs.lemmas.Bool.Decides.{nat_tests}
 use Rattle.definitions.specs.declared.Vertex.{Vertex}
 use Rattle.definitions.specs.declared.Corner.{Corner}
@@ -15,7 +15,6 @@ use Rattle.definitions.specs.Places.{place}
 use Rattle.definitions.specs.Vectors.{minus, det, det_of}
 use Rattle.definitions.specs.Pieces.{slot, middle, oriented, swap_last_two}
 use Rattle.lattice_laws.specs.Vectors.{Vector, ◌+ᵥ◌, x_of, y_of, z_of}
-use Rattle.lattice_laws.proofs.Booleans.{both_true}
 
 -- ---- numbers
 
@@ -60,7 +59,7 @@ module _ (tet base : List Vertex) (s : Vector) (m : IsMoved tet base s) where
       let l = ltb-true _ _ e in let v = slot tet a in let w = slot base a in
       λ i. place (twice v.x w.x s.x (m.x a l) i) (twice v.y w.y s.y (m.y a l) i) (twice v.h w.h s.z (m.h a l) i)
   middle_moved (Cut a b) e =
-      let f = both_true (nat_lt a 4) (nat_lt b 4) e in
+      let f = and_parts (nat_lt a 4) (nat_lt b 4) e in
       let k = ltb-true _ _ f.0 in let l = ltb-true _ _ f.1 in
       let v = slot tet a in let w = slot base a in let t = slot tet b in let u = slot base b in
       λ i. place (added v.x w.x t.x u.x s.x (m.x a k) (m.x b l) i) (added v.y w.y t.y u.y s.y (m.y a k) (m.y b l) i) (added v.h w.h t.h u.h s.z (m.h a k) (m.h b l) i)
@@ -76,7 +75,7 @@ module _ (tet base : List Vertex) (s : Vector) (m : IsMoved tet base s) where
   -- volumes are the same
   pub det_same : (p : List Corner) → is_four p ≡ true → det (map (middle tet) p) ≡ det (map (middle base) p)
   det_same (a ∷ b ∷ c ∷ d ∷ []) e =
-      let f = both_true (fits_slots a) _ e in let g = both_true (fits_slots b) _ f.1 in let h = both_true (fits_slots c) _ g.1 in
+      let f = and_parts (fits_slots a) _ e in let g = and_parts (fits_slots b) _ f.1 in let h = and_parts (fits_slots c) _ g.1 in
       λ i. det_of (minus_same b a g.0 f.0 i) (minus_same c a h.0 f.0 i) (minus_same d a h.1 f.0 i)
   det_same [] e = cc
   det_same (a ∷ []) e = cc

@@ -4,109 +4,20 @@ use crate::made::{plan_of, stream, survey_of};
 use desk_mem::MemDesk;
 use dihedral::Extremes;
 use node_ele_write::PutFault;
-use small_images::one_sample;
+use small_images::{
+    ONE_SAMPLE_ELE_FILE, ONE_SAMPLE_ELE_FILE_FROM_ONE, ONE_SAMPLE_NODE_FILE,
+    ONE_SAMPLE_NODE_FILE_FROM_ONE, one_sample,
+};
 use st_base::{OpenGate, Port};
 use std::alloc::Global;
 use std::process::Abort;
 use std::test::*;
 use std::thread::Threads;
-use table_lines::{cut, number};
-
-// The files of one sample above the level.
-const NODE_FILE: &[u8] = b"15 3 0 1
-0 0.0000000000000 0.0000000000000 -0.5000000000000 1
-1 -0.2857666015625 -0.2857666015625 -0.2857666015625 1
-2 0.2857666015625 -0.2857666015625 -0.2857666015625 1
-3 -0.2857666015625 0.2857666015625 -0.2857666015625 1
-4 0.2857666015625 0.2857666015625 -0.2857666015625 1
-5 0.0000000000000 -0.5000000000000 0.0000000000000 1
-6 -0.5000000000000 0.0000000000000 0.0000000000000 1
-7 0.0000000000000 0.0000000000000 0.0000000000000 0
-8 0.5000000000000 0.0000000000000 0.0000000000000 1
-9 0.0000000000000 0.5000000000000 0.0000000000000 1
-10 -0.2857666015625 -0.2857666015625 0.2857666015625 1
-11 0.2857666015625 -0.2857666015625 0.2857666015625 1
-12 -0.2857666015625 0.2857666015625 0.2857666015625 1
-13 0.2857666015625 0.2857666015625 0.2857666015625 1
-14 0.0000000000000 0.0000000000000 0.5000000000000 1
-";
-
-const ELE_FILE: &[u8] = b"24 4 0
-0 0 1 2 7
-1 0 1 7 3
-2 0 2 4 7
-3 0 3 7 4
-4 1 2 7 5
-5 1 3 6 7
-6 1 5 7 10
-7 1 6 10 7
-8 2 4 7 8
-9 2 5 11 7
-10 2 7 11 8
-11 3 4 9 7
-12 3 6 7 12
-13 3 7 9 12
-14 4 7 8 13
-15 4 7 13 9
-16 5 7 10 11
-17 6 7 12 10
-18 7 8 13 11
-19 7 9 12 13
-20 7 10 11 14
-21 7 10 14 12
-22 7 11 13 14
-23 7 12 14 13
-";
-
-// The same, numbered from 1.
-const NODE_FILE_FROM_ONE: &[u8] = b"15 3 0 1
-1 0.0000000000000 0.0000000000000 -0.5000000000000 1
-2 -0.2857666015625 -0.2857666015625 -0.2857666015625 1
-3 0.2857666015625 -0.2857666015625 -0.2857666015625 1
-4 -0.2857666015625 0.2857666015625 -0.2857666015625 1
-5 0.2857666015625 0.2857666015625 -0.2857666015625 1
-6 0.0000000000000 -0.5000000000000 0.0000000000000 1
-7 -0.5000000000000 0.0000000000000 0.0000000000000 1
-8 0.0000000000000 0.0000000000000 0.0000000000000 0
-9 0.5000000000000 0.0000000000000 0.0000000000000 1
-10 0.0000000000000 0.5000000000000 0.0000000000000 1
-11 -0.2857666015625 -0.2857666015625 0.2857666015625 1
-12 0.2857666015625 -0.2857666015625 0.2857666015625 1
-13 -0.2857666015625 0.2857666015625 0.2857666015625 1
-14 0.2857666015625 0.2857666015625 0.2857666015625 1
-15 0.0000000000000 0.0000000000000 0.5000000000000 1
-";
-
-const ELE_FILE_FROM_ONE: &[u8] = b"24 4 0
-1 1 2 3 8
-2 1 2 8 4
-3 1 3 5 8
-4 1 4 8 5
-5 2 3 8 6
-6 2 4 7 8
-7 2 6 8 11
-8 2 7 11 8
-9 3 5 8 9
-10 3 6 12 8
-11 3 8 12 9
-12 4 5 10 8
-13 4 7 8 13
-14 4 8 10 13
-15 5 8 9 14
-16 5 8 14 10
-17 6 8 11 12
-18 7 8 13 11
-19 8 9 14 12
-20 8 10 13 14
-21 8 11 12 15
-22 8 11 15 13
-23 8 12 14 15
-24 8 13 15 14
-";
+use table_lines::{field, number};
 
 // The number of workers, the port, the number of the first line, how many bytes the port takes, how many it has at the
 // end, and its faults.
-const ROWS: &[u8] = b"\
+const ROWS: &str = "\
 1|node|0|9999|809|0
 64|node|0|9999|809|0
 1|node|1|9999|810|0
@@ -169,17 +80,17 @@ fn streamed<R: Threads + Sync + Abort>(
 }
 
 fn check<R: Threads + Sync + Abort>(rt: &R, alloc: Global, row: &[u8]) {
-    let (workers, rest) = cut(row, b'|');
-    let (port, rest) = cut(rest, b'|');
-    let (first, rest) = cut(rest, b'|');
-    let (limit, rest) = cut(rest, b'|');
-    let (has, faults) = cut(rest, b'|');
+    let (workers, rest) = field(row);
+    let (port, rest) = field(rest);
+    let (first, rest) = field(rest);
+    let (limit, rest) = field(rest);
+    let (has, faults) = field(rest);
     let numbering = number(first).min(1);
     let (port, other, file) = match (port, numbering) {
-        (b"node", 0) => (Port::Node, Port::Ele, NODE_FILE),
-        (b"node", _) => (Port::Node, Port::Ele, NODE_FILE_FROM_ONE),
-        (_, 0) => (Port::Ele, Port::Node, ELE_FILE),
-        (_, _) => (Port::Ele, Port::Node, ELE_FILE_FROM_ONE),
+        (b"node", 0) => (Port::Node, Port::Ele, ONE_SAMPLE_NODE_FILE),
+        (b"node", _) => (Port::Node, Port::Ele, ONE_SAMPLE_NODE_FILE_FROM_ONE),
+        (_, 0) => (Port::Ele, Port::Node, ONE_SAMPLE_ELE_FILE),
+        (_, _) => (Port::Ele, Port::Node, ONE_SAMPLE_ELE_FILE_FROM_ONE),
     };
     let limit = u64::from(number(limit));
     let (desk, found) = streamed(rt, alloc, number(workers), port, numbering, limit);
@@ -198,11 +109,8 @@ fn check<R: Threads + Sync + Abort>(rt: &R, alloc: Global, row: &[u8]) {
 
 #[test]
 fn one_sample_is_streamed_to_these_files(rt: HostRuntime) {
-    let mut rest = ROWS;
     let alloc = rt.alloc();
-    while !rest.is_empty() {
-        let (row, behind) = cut(rest, b'\n');
-        check(&rt, alloc, row);
-        rest = behind;
+    for row in ROWS.lines() {
+        check(&rt, alloc, row.as_bytes());
     }
 }

@@ -1,9 +1,7 @@
-ghost use Rattle.std.specs.Prelude.{◌≡◌, ◌≢◌, ◌≤◌, true, Err, OnOk, OnErr, IfOk, IsErrOf};
+ghost use Rattle.std.specs.Prelude.{◌≡◌, ◌≤◌, true, OnOk, IfOk};
 ghost use Rattle.std.specs.Io.KnownBytes.{Appends};
-ghost use Rattle.st_base.specs.Causes.{Rose};
-ghost use Rattle.st_base.specs.Desk.{AppendsPart};
-ghost use Rattle.st_base.specs.Frames.{OnlyPort};
 ghost use Rattle.slab_emit.specs.Sources.{CanPrint};
+ghost use Rattle.mesh_rounds.specs.Puts.{PutsText};
 ghost use Rattle.mesh_rounds.specs.Rounds.{all_extremes, all_lines};
 ghost use Rattle.slab_work.specs.Rounds.{lines_of_rounds};
 
@@ -32,16 +30,9 @@ pub fn stream_lines<D: Desk + Send, G: Gate + Sync, R: Threads + Sync>(
     requires low { 1 ≤ workers }
     requires high { workers ≤ 64 }
     requires printable { CanPrint lines source.now }
-    ensures all { OnOk result (Appends (D.ports desk.old port).text (D.ports desk.new port).text (all_lines lines source.now)) }
+    ensures puts { PutsText D.Desk port desk.old desk.new (all_lines lines source.now) result }
     ensures rounds { OnOk result (Appends (D.ports desk.old port).text (D.ports desk.new port).text (lines_of_rounds lines source.now workers)) }
-    ensures part { OnErr result (AppendsPart (D.ports desk.old port).text (D.ports desk.new port).text (all_lines lines source.now)) }
     ensures found { IfOk result (λ found. found ≡ all_extremes lines source.now) }
-    ensures fault { IsErrOf result PutFault.WriteFault → Rose (D.ports desk.old port).faults (D.ports desk.new port).faults }
-    ensures none { result ≢ Err PutFault.WriteFault → (D.ports desk.new port).faults ≡ (D.ports desk.old port).faults }
-    ensures later { (D.ports desk.old port).faults ≤ (D.ports desk.new port).faults }
-    ensures is_open { (D.ports desk.new port).is_open ≡ true }
-    ensures name { (D.ports desk.new port).name ≡ (D.ports desk.old port).name }
-    ensures apart { OnlyPort D.Desk port desk.old desk.new }
 {
     let slabs = source.slabs();
     let mut crew = Crew::new(alloc, workers);
@@ -49,16 +40,7 @@ pub fn stream_lines<D: Desk + Send, G: Gate + Sync, R: Threads + Sync>(
         first: 0,
         found: None,
     };
-    let Ok(mut parts) = next_round(
-        rt,
-        alloc,
-        source,
-        lines,
-        slabs,
-        &mut crew,
-        gate,
-        &mut reached,
-    ) else {
+    let Ok(mut parts) = next_round(rt, alloc, source, lines, &mut crew, gate, &mut reached) else {
         return Err(PutFault::NoMemory);
     };
     while reached.first < slabs {
@@ -70,7 +52,6 @@ pub fn stream_lines<D: Desk + Send, G: Gate + Sync, R: Threads + Sync>(
             &parts,
             source,
             lines,
-            slabs,
             &mut crew,
             gate,
             &mut reached,

@@ -1,10 +1,8 @@
-ghost use Rattle.std.specs.Prelude.{◌≡◌, ◌≢◌, ◌≤◌, ℕ, true, Err, OnOk, OnErr, IfOk, IsErrOf};
+ghost use Rattle.std.specs.Prelude.{◌≡◌, ◌≤◌, true, OnOk, IfOk};
 ghost use Rattle.std.specs.Io.KnownBytes.{Appends};
 ghost use Rattle.command_line.specs.Grammar.{IsPlan};
-ghost use Rattle.st_base.specs.Causes.{Rose};
 ghost use Rattle.formats.specs.Frames.{IsFrame};
-ghost use Rattle.st_base.specs.Desk.{AppendsPart};
-ghost use Rattle.st_base.specs.Frames.{OnlyPort};
+ghost use Rattle.mesh_rounds.specs.Puts.{PutsText};
 ghost use Rattle.mesh_rounds.specs.Rounds.{all_extremes, all_lines};
 ghost use Rattle.slab_work.specs.Rounds.{lines_of_rounds};
 ghost use Rattle.slab_work.specs.Surveyed.{AreKept, surveyed};
@@ -55,30 +53,10 @@ pub fn stream_slabs<D: Desk + Send, G: Gate + Sync, R: Threads + Sync>(
     ensures rounds { OnOk result (Appends
         (D.ports desk.old port).text (D.ports desk.new port).text
         (lines_of_rounds (lines_at frame numbering port) (surveyed survey.now) plan.workers)) }
-    ensures all { OnOk result (Appends
-        (D.ports desk.old port).text (D.ports desk.new port).text
-        (all_lines (lines_at frame numbering port) (surveyed survey.now))) }
-    ensures part { OnErr result (AppendsPart
-        (D.ports desk.old port).text (D.ports desk.new port).text
-        (all_lines (lines_at frame numbering port) (surveyed survey.now))) }
+    ensures puts { PutsText D.Desk port desk.old desk.new (all_lines (lines_at frame numbering port) (surveyed survey.now)) result }
     ensures extremes { IfOk result (λ e. e ≡ all_extremes (lines_at frame numbering port) (surveyed survey.now)) }
-    ensures fault { IsErrOf result PutFault.WriteFault →
-        Rose (D.ports desk.old port).faults (D.ports desk.new port).faults }
-    ensures none { result ≢ Err PutFault.WriteFault →
-        (D.ports desk.new port).faults ≡ (D.ports desk.old port).faults }
-    ensures is_open { (D.ports desk.new port).is_open ≡ true }
-    ensures name { (D.ports desk.new port).name ≡ (D.ports desk.old port).name }
-    ensures apart { OnlyPort D.Desk port desk.old desk.new }
 {
     let source = source_of(survey);
-    stream_lines(
-        rt,
-        alloc,
-        desk,
-        port,
-        &source,
-        lines_of(port, frame, numbering),
-        plan.workers,
-        gate,
-    )
+    let lines = lines_of(port, frame, numbering);
+    stream_lines(rt, alloc, desk, port, &source, lines, plan.workers, gate)
 }

@@ -1,12 +1,16 @@
+pub mod Counted
 pub mod Growing
+pub mod FilesInTurn
 pub mod InputEndings
 pub mod TextsWritten
 pub mod KeptSizes
+pub mod MeshTriangles
 pub mod PortEnds
-pub mod Printing
 pub mod Reports
 pub mod SoundMeshes
 pub mod Surveys
 pub mod Traced
 pub mod ToldInputs
 pub mod Trying
+pub mod Writings
+pub mod Audits

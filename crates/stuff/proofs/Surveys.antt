@@ -1,21 +1,21 @@
 -- What a survey knows of the mesh of its field.
-use Rattle.std.proofs.Common.{◌≡◌, ◌≤◌, ℕ, List, Option, All, false, inl, refl, sym, subst, ap, ◌∙◌, arith}
-use Rattle.std.specs.Io.KnownBytes.{Appends}
+use Rattle.std.proofs.Common.{◌≡◌, ℕ, List, Option, All, refl, sym, subst, ap, ◌∙◌, arith}
+use Rattle.std.specs.Prelude.{Result, Ok, Err, IfOk}
+use Rattle.formats.specs.declared.Status.{Status}
+use Rattle.st_base.specs.declared.desk.Desk.{Ghosts}
 use Rattle.formats.specs.declared.Port.{Port}
-use Rattle.formats.specs.declared.Status.TheVariants.{WriteFault}
-use Rattle.st_base.specs.Causes.{Rose}
-use Rattle.st_base.specs.Desk.{PortState, AppendsPart}
-use Rattle.stuff.specs.Writing.{IsBroken, IsWritten}
-use Rattle.stuff.proofs.Growing.{all_is_part}
-use Rattle.std.specs.Prelude.{IfSome}
+use Rattle.mesh_rounds.specs.Puts.{PutsText}
+use Rattle.node_ele_write.specs.declared.PutFault.{PutFault}
+use Rattle.node_ele_write.specs.declared.PutFault.TheVariants as fault
+use Rattle.stuff.specs.Writing.{HasPut}
+use Rattle.definitions.specs.declared.Extremes.{Extremes}
+use Rattle.std.specs.Prelude.{IfSome, Some, None, unwrap_or}
+use Rattle.command_line.specs.declared.Plan.{Plan}
 use Rattle.definitions.specs.Mesh.{Mesh, mesh}
-use Rattle.definitions.specs.States.{Shares, states}
-use Rattle.definitions.specs.Values.{Field}
 use Rattle.formats.specs.declared.Frame.{Frame}
 use Rattle.formats.specs.Frames.{IsFrame}
 use Rattle.command_line.specs.Grammar.{IsPlan}
 use Rattle.command_words.specs.declared.Command.{Command}
-use Rattle.command_words.specs.declared.Command.TheVariants as command
 use Rattle.command_words.specs.Commands.{plan_of, plan_with}
 use Rattle.mesh_texts.specs.Files.{node_text}
 use Rattle.mesh_texts.specs.Nodes.{nodes_of, mesh_nodes}
@@ -26,24 +26,18 @@ use Rattle.mesh_lists.proofs.Meshes.{mesh_by_states}
 use Rattle.slab_emit.specs.Sources.{SourceValue}
 use Rattle.slab_work.specs.Surveyed.{AreKept, surveyed}
 use Rattle.survey.specs.Surveys.{SurveyValue}
-use Rattle.stuff.proofs.Printing.{printable}
+use Rattle.slab_work.proofs.Printing.{printable}
 
--- a file that was written and is finished
-pub written : (before mid after : PortState) (text : List ℕ) → Appends before.text mid.text text → mid.name ≡ before.name → mid.faults ≡ 0 → after.text ≡ mid.text → after.name ≡ mid.name → after.is_open ≡ false → after.faults ≡ mid.faults → IsWritten before after text
-written before mid after text all name none same named closed kept = record {
-  all = subst (λ (t : Option (List ℕ)). Appends before.text t text) (sym same) all;
-  closed = closed;
-  named = named ∙ name;
-  faults = kept ∙ none;
-}
+-- a text that was put to a port, or not all of it
+pub has_put : {S T : Type 0} (desk : Ghosts S) (port : Port) (old new : S) (text : List ℕ) (put : Result T PutFault) → PutsText desk port old new text put → (desk.ports old port).faults ≡ 0 → HasPut put (desk.ports old port) (desk.ports new port) text
+has_put desk port old new text (Ok x) p clean = (p.all, p.name, p.none (λ e. cc) ∙ clean)
+has_put desk port old new text (Err fault.WriteFault) p clean = (p.part, p.name, let r = p.fault refl in omega (arith, clean, r))
+has_put desk port old new text (Err fault.NoMemory) p clean = (p.part, p.name, p.none (λ e. cc) ∙ clean)
 
--- a file that was written and cannot be finished
-pub unfinished : (p : Port) (before mid after : PortState) (text : List ℕ) → Appends before.text mid.text text → mid.name ≡ before.name → mid.faults ≡ 0 → after.text ≡ mid.text → after.name ≡ mid.name → Rose mid.faults after.faults → IsBroken (WriteFault p) p before after text
-unfinished p before mid after text all name none same named rose = record {
-  part = subst (λ (t : Option (List ℕ)). AppendsPart before.text t text) (sym same) (all_is_part before.text mid.text text all);
-  named = named ∙ name;
-  cause = inl (refl, omega (arith, none, rose));
-}
+-- what was put is told
+pub extremes_told : (put : Result (Option Extremes) PutFault) (result : Result (Option Extremes) Status) (m n : Option Extremes) → IfOk put (λ e. e ≡ m) → IfOk result (λ x. put ≡ Ok x) → m ≡ n → IfOk result (λ e. e ≡ n)
+extremes_told put (Ok x) m n h e same = (subst (λ (r : Result (Option Extremes) PutFault). IfOk r (λ y. y ≡ m)) e h) ∙ same
+extremes_told put (Err status) m n h e same = tt
 
 module _ (v : SurveyValue) (source : SourceValue) (e : source ≡ surveyed v) where
   -- its mesh, as that of a source
@@ -61,7 +55,9 @@ module _ (v : SurveyValue) (source : SourceValue) (e : source ≡ surveyed v) wh
   node_text_is frame first = ap (λ (x : SourceValue). node_text frame first (nodes_of x.field x.states)) e
 
 -- the plan of a command keeps its limits
+plan_or : (plan : Option Plan) → IfSome plan IsPlan → IsPlan (unwrap_or plan (record { workers = 4; slab = 4 }))
+plan_or (Some plan) h = h
+plan_or None h = record { some_workers = omega arith; most_workers = omega arith; some_slab = omega arith; most_slab = omega arith }
+
 pub plan_kept : (c : Command) → IfSome (plan_of c) IsPlan → IsPlan (plan_with c)
-plan_kept (command.Count input level below step) h = record { some_workers = omega arith; most_workers = omega arith; some_slab = omega arith; most_slab = omega arith }
-plan_kept (command.Mesh input output level below step shares plan numbering world) h = h
-plan_kept (command.Demo size seed plan) h = h
+plan_kept c h = plan_or (plan_of c) h

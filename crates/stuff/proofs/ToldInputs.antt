@@ -64,16 +64,16 @@ early_in_head text h (Large padded) n lt le = inl lt
 early_in_head text h (EndsEarly got wanted) n lt le = elim (less_or_same n (length text) le) [ inl less ↦ inl less | inr same ↦ inr (same, refl) ]
 early_in_head text h (Whole v) n lt le = inl (omega arith)
 
-breaks : (world : Bool) (step : ℕ) (text : List ℕ) (o : Outcome) (n : ℕ) (left : Option (List ℕ)) → outcome_of world step text ≡ o → IsLeft text n left → (n < o.taken) ⊎ ((n ≡ length text) × IsTrue o.at_end) → BreaksOff world step text left
+breaks : (world : Bool) (step : ℕ) (text : List ℕ) (o : Outcome) (n : ℕ) (left : Option (List ℕ)) → outcome_of world step text ≡ o → IsLeft text n left → (n < o.taken) ⊎ ((n ≡ length text) × IsTrue o.at_end) → BreaksOff (outcome_of world step text) text left
 breaks world step text o n left e l early = record { taken = n; is_left = l; early = subst (λ (o : Outcome). (n < o.taken) ⊎ ((n ≡ length text) × IsTrue o.at_end)) (sym e) early }
 
-broken_at : (world : Bool) (step : ℕ) (text : List ℕ) (h : HeadAt) (n : ℕ) (left : Option (List ℕ)) → head_of world text ≡ Ok h → Leaves text n left → (n < head_taken text) ⊎ ((n ≡ length text) × IsTrue (ends_in_head text)) → BreaksOff world step text left
+broken_at : (world : Bool) (step : ℕ) (text : List ℕ) (h : HeadAt) (n : ℕ) (left : Option (List ℕ)) → head_of world text ≡ Ok h → Leaves text n left → (n < head_taken text) ⊎ ((n ≡ length text) × IsTrue (ends_in_head text)) → BreaksOff (outcome_of world step text) text left
 broken_at world step text h n left e l (inl lt) =
     breaks world step text (outcome_of_volume text h (volume_answer second_limits text h step)) n left (outcome_behind world step text h _ e refl) (left_of text n n left l refl)
     (early_in_head text h (volume_answer second_limits text h step) n (omega (arith, (head_is_read world text h e).0)) l.within)
 broken_at world step text h n left e l (inr (same, ends)) = let f : false ≡ true = sym (head_is_read world text h e).1 ∙ ends in cc
 
-broken_head : (world : Bool) (step : ℕ) (text : List ℕ) (r : Result HeadAt HeadFault) (left : Option (List ℕ)) → head_of world text ≡ r → Answers world (Err header.ReadFault) text left → BreaksOff world step text left
+broken_head : (world : Bool) (step : ℕ) (text : List ℕ) (r : Result HeadAt HeadFault) (left : Option (List ℕ)) → head_of world text ≡ r → Answers world (Err header.ReadFault) text left → BreaksOff (outcome_of world step text) text left
 broken_head world step text (Err fault) left e a = breaks world step text _ a.0 left (outcome_without world step text fault e) (left_of text a.0 a.0 left a.1 refl) a.2
 broken_head world step text (Ok h) left e a = broken_at world step text h a.0 left e a.1 a.2
 
@@ -83,7 +83,7 @@ refused_for fault world step text left a =
     let o = outcome_without world step text fault a.0 in
     (ap (λ (o : Outcome). o.status) o, left_of text (head_taken text) (outcome_of world step text).taken left a.1 (ap (λ (o : Outcome). o.taken) (sym o)))
 
-pub head_refused : (fault : HeadFault) (world : Bool) (step : ℕ) (text : List ℕ) (left : Option (List ℕ)) → Answers world (Err fault) text left → RefusesInput (status_of fault) world step text left
+pub head_refused : (fault : HeadFault) (world : Bool) (step : ℕ) (text : List ℕ) (left : Option (List ℕ)) → Answers world (Err fault) text left → RefusesInput (status_of fault) (outcome_of world step text) text left
 head_refused (header.BadLine place) world step text left a = refused_for (header.BadLine place) world step text left a
 head_refused (header.Missing key) world step text left a = refused_for (header.Missing key) world step text left a
 head_refused (header.BadValue key) world step text left a = refused_for (header.BadValue key) world step text left a
@@ -100,7 +100,7 @@ left_behind text len n taken left le l e = record {
   within = omega (arith, l.within, length-drop len text);
 }
 
-volume_at_head : (world : Bool) (step : ℕ) (text : List ℕ) (h : HeadAt) (v : Volume) (left : Option (List ℕ)) → head_of world text ≡ Ok h → h.len ≤ length text → VolumeTold (volume_answer second_limits text h step) (wanted_bytes h.head) (Ok v) (drop h.len text) left → ReadsInput (Ok (v, h.head.axes)) world step text left
+volume_at_head : (world : Bool) (step : ℕ) (text : List ℕ) (h : HeadAt) (v : Volume) (left : Option (List ℕ)) → head_of world text ≡ Ok h → h.len ≤ length text → VolumeTold (volume_answer second_limits text h step) (wanted_bytes h.head) (Ok v) (drop h.len text) left → ReadsInput (Ok (v, h.head.axes)) (outcome_of world step text) text left
 volume_at_head world step text h v left e le t =
     let o = outcome_behind world step text h (Whole v) e t.0 in
     (ap (λ (o : Outcome). o.volume) o, ap (λ (o : Outcome). o.axes) o, (ap (λ (o : Outcome). o.status) o, left_behind text h.len (wanted_bytes h.head) (outcome_of world step text).taken left le t.1 (ap (λ (o : Outcome). o.taken) (sym o))))
@@ -121,12 +121,12 @@ broken_behind text h (EndsEarly got wanted) n le small (inr (same, lt)) = inr (o
 broken_behind text h (Whole v) n le small (inl lt) = inl (omega (arith, lt))
 broken_behind text h (Whole v) n le small (inr (same, lt)) = inl (omega (arith, lt))
 
-broken_volume : (world : Bool) (step : ℕ) (text : List ℕ) (h : HeadAt) (left : Option (List ℕ)) → head_of world text ≡ Ok h → h.len ≤ length text → is_too_large second_limits h.head step ≡ false → VolumeTold (volume_answer second_limits text h step) (wanted_bytes h.head) (Err volume.ReadFault) (drop h.len text) left → BreaksOff world step text left
+broken_volume : (world : Bool) (step : ℕ) (text : List ℕ) (h : HeadAt) (left : Option (List ℕ)) → head_of world text ≡ Ok h → h.len ≤ length text → is_too_large second_limits h.head step ≡ false → VolumeTold (volume_answer second_limits text h step) (wanted_bytes h.head) (Err volume.ReadFault) (drop h.len text) left → BreaksOff (outcome_of world step text) text left
 broken_volume world step text h left e le small t =
     breaks world step text (outcome_of_volume text h (volume_answer second_limits text h step)) (h.len + t.0) left (outcome_behind world step text h _ e refl) (left_behind text h.len t.0 (h.len + t.0) left le t.1 refl)
     (broken_behind text h (volume_answer second_limits text h step) t.0 le (λ padded. not_large second_limits world step text h padded small) t.2)
 
-volume_not_at_head : (fault : VolFault) (world : Bool) (step : ℕ) (text : List ℕ) (h : HeadAt) (left : Option (List ℕ)) → head_of world text ≡ Ok h → h.len ≤ length text → FollowsHead second_limits h.head step (Err fault) → VolumeTold (volume_answer second_limits text h step) (wanted_bytes h.head) (Err fault) (drop h.len text) left → RefusesInput (status_of_volume fault) world step text left
+volume_not_at_head : (fault : VolFault) (world : Bool) (step : ℕ) (text : List ℕ) (h : HeadAt) (left : Option (List ℕ)) → head_of world text ≡ Ok h → h.len ≤ length text → FollowsHead second_limits h.head step (Err fault) → VolumeTold (volume_answer second_limits text h step) (wanted_bytes h.head) (Err fault) (drop h.len text) left → RefusesInput (status_of_volume fault) (outcome_of world step text) text left
 volume_not_at_head (volume.TooLarge padded) world step text h left e le follows t =
     let o = outcome_behind world step text h (Large padded) e t.0 in
     (ap (λ (o : Outcome). o.status) o, record { left_is = t.1 ∙ ap (λ (k : ℕ). Some (drop k text)) (ap (λ (o : Outcome). o.taken) (sym o)); within = omega (arith, le, ap (λ (o : Outcome). o.taken) o) })
@@ -139,14 +139,14 @@ volume_not_at_head volume.NoMemory world step text h left e le follows t = tt
 
 -- the same where the head and the limits are known by equations
 pub volume_read : (world : Bool) (step : ℕ) (text : List ℕ) (limits : Limits) (head : Head) (h : HeadAt) (v : Volume) (left : Option (List ℕ)) → limits ≡ second_limits → head ≡ h.head → head_of world text ≡ Ok h → h.len ≤ length text
-    → VolumeTold (volume_answer limits text (record { head = head; len = h.len }) step) (wanted_bytes head) (Ok v) (drop h.len text) left → ReadsInput (Ok (v, head.axes)) world step text left
+    → VolumeTold (volume_answer limits text (record { head = head; len = h.len }) step) (wanted_bytes head) (Ok v) (drop h.len text) left → ReadsInput (Ok (v, head.axes)) (outcome_of world step text) text left
 volume_read world step text limits head h v left l e p le t =
     let first = subst (λ (l : Limits). VolumeTold (volume_answer l text (record { head = head; len = h.len }) step) (wanted_bytes head) (Ok v) (drop h.len text) left) l t in
-    subst (λ (x : Head). ReadsInput (Ok (v, x.axes)) world step text left) (sym e)
+    subst (λ (x : Head). ReadsInput (Ok (v, x.axes)) (outcome_of world step text) text left) (sym e)
     (volume_at_head world step text h v left p le (subst (λ (x : Head). VolumeTold (volume_answer second_limits text (record { head = x; len = h.len }) step) (wanted_bytes x) (Ok v) (drop h.len text) left) e first))
 
 pub volume_refused : (world : Bool) (step : ℕ) (text : List ℕ) (limits : Limits) (head : Head) (h : HeadAt) (fault : VolFault) (left : Option (List ℕ)) → limits ≡ second_limits → head ≡ h.head → head_of world text ≡ Ok h → h.len ≤ length text → FollowsHead limits head step (Err fault)
-    → VolumeTold (volume_answer limits text (record { head = head; len = h.len }) step) (wanted_bytes head) (Err fault) (drop h.len text) left → RefusesInput (status_of_volume fault) world step text left
+    → VolumeTold (volume_answer limits text (record { head = head; len = h.len }) step) (wanted_bytes head) (Err fault) (drop h.len text) left → RefusesInput (status_of_volume fault) (outcome_of world step text) text left
 volume_refused world step text limits head h fault left l e p le follows t =
     let first = subst (λ (l : Limits). VolumeTold (volume_answer l text (record { head = head; len = h.len }) step) (wanted_bytes head) (Err fault) (drop h.len text) left) l t in
     volume_not_at_head fault world step text h left p le (subst (λ (x : Head). FollowsHead second_limits x step (Err fault)) e (subst (λ (l : Limits). FollowsHead l head step (Err fault)) l follows))

@@ -7,7 +7,8 @@ use Rattle.formats.specs.declared.HeadFault.{HeadFault}
 use Rattle.formats.specs.Faults.{status_of}
 use Rattle.formats.specs.Heads.{HeadAt, head_of, head_taken, ends_in_head}
 use Rattle.formats.specs.Volumes.{Volume, VolumeAnswer, Large, EndsEarly, Whole, volume_answer, wanted_bytes, second_limits}
-use Rattle.command_line.specs.Grammar.{Command, Reads, CountSigns, MakeMesh, MakeDemo}
+use Rattle.command_line.specs.Grammar.{Command, Reads, Meshing, CountSigns, MakeMesh, MakeDemo, AuditFiles, ProbePoint, StreamMesh}
+use Rattle.file_audit.specs.Status.{node_name, ele_name}
 
 -- What an input comes to: a status, how many of its bytes are read, whether that is known only at its end, the volume that it holds, and the axes of its head.
 pub record Outcome : Type 0 where
@@ -40,22 +41,38 @@ pub record Settings : Type 0 where
   pub step : ℕ
   pub world : Bool
 
+abbrev pub meshing_settings : Meshing → Settings
+meshing_settings m = record { twice = m.level; below = m.below; step = m.step; world = m.world }
+
 abbrev pub settings_of : Command → Settings
 settings_of (CountSigns input level below step) = record { twice = level; below = below; step = step; world = false }
-settings_of (MakeMesh m) = record { twice = m.level; below = m.below; step = m.step; world = m.world }
+settings_of (MakeMesh m) = meshing_settings m
 settings_of (MakeDemo size seed plan) = record { twice = pos 399; below = false; step = 1; world = false }
+settings_of (AuditFiles input) = record { twice = pos 0; below = false; step = 1; world = false }
+settings_of (ProbePoint input level below step shares point) = record { twice = level; below = below; step = step; world = false }
+settings_of (StreamMesh m) = meshing_settings m
+
+-- what its input comes to
+abbrev pub outcome_for : Command → List ℕ → Outcome
+outcome_for c text = outcome_of (settings_of c).world (settings_of c).step text
 
 -- the names of the files that a command reads
 abbrev pub input_names : List (List ℕ) → Command → List (List ℕ)
 input_names words (CountSigns input level below step) = slice_index_or words input [] ∷ []
 input_names words (MakeMesh m) = slice_index_or words m.input [] ∷ []
 input_names words (MakeDemo size seed plan) = []
+input_names words (AuditFiles input) = node_name (slice_index_or words input []) ∷ ele_name (slice_index_or words input []) ∷ []
+input_names words (ProbePoint input level below step shares point) = slice_index_or words input [] ∷ []
+input_names words (StreamMesh m) = slice_index_or words m.input [] ∷ []
 
--- what is told of its input, if it has one
+-- what is told of its volume's file, if it has one
 abbrev pub told_input : (List ℕ → Option (List ℕ)) → List (List ℕ) → Command → Option (List ℕ)
 told_input held words (CountSigns input level below step) = held (slice_index_or words input [])
 told_input held words (MakeMesh m) = held (slice_index_or words m.input [])
 told_input held words (MakeDemo size seed plan) = None
+told_input held words (AuditFiles input) = None
+told_input held words (ProbePoint input level below step shares point) = held (slice_index_or words input [])
+told_input held words (StreamMesh m) = held (slice_index_or words m.input [])
 
 -- so many bytes of the text were read
 pub record IsLeft (text : List ℕ) (n : ℕ) (left : Option (List ℕ)) : Type 0 where
@@ -63,14 +80,12 @@ pub record IsLeft (text : List ℕ) (n : ℕ) (left : Option (List ℕ)) : Type 
   pub within : n ≤ length text
 
 -- A fault of reading comes before the last byte that is read, or where the end of the input decides.
-pub record BreaksOff (world : Bool) (step : ℕ) (text : List ℕ) (left : Option (List ℕ)) : Type 0 where
+pub record BreaksOff (o : Outcome) (text : List ℕ) (left : Option (List ℕ)) : Type 0 where
   pub taken : ℕ
   pub is_left : IsLeft text taken left
-  pub early : (taken < (outcome_of world step text).taken) ⊎ ((taken ≡ length text) × IsTrue (outcome_of world step text).at_end)
+  pub early : (taken < o.taken) ⊎ ((taken ≡ length text) × IsTrue o.at_end)
 
--- the words say these settings, and name an input whose bytes are told
-pub record IsInput (words : List (List ℕ)) (held : List ℕ → Option (List ℕ)) (text : List ℕ) (s : Settings) : Type 0 where
-  pub command : Command
-  pub reads : Reads words command
-  pub settings : s ≡ settings_of command
-  pub told : told_input held words command ≡ Some text
+-- the words read as a command that names an input whose bytes are told
+pub record IsInput (words : List (List ℕ)) (held : List ℕ → Option (List ℕ)) (c : Command) (text : List ℕ) : Type 0 where
+  pub reads : Reads words c
+  pub told : told_input held words c ≡ Some text

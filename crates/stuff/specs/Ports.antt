@@ -1,35 +1,51 @@
 -- What stands on the ports when a command has ended.
-use Rattle.std.specs.Prelude.{◌≡◌, ◌≢◌, ◌⊎◌, ◌↔◌, ◌<◌, ℕ, List, Bool, true, false, ⊤}
+use Rattle.std.specs.Prelude.{◌≡◌, ◌≢◌, ◌⊎◌, ◌↔◌, ◌<◌, ◌==◌, nat_lt, if◌then◌else◌, ℕ, List, [], ◌∷◌, Bool, IsTrue, true, false, ⊤}
+use Rattle.std.specs.List.{list_any}
 use Rattle.std.specs.Io.KnownBytes.{Appends}
 use Rattle.formats.specs.declared.Port.{Port}
 use Rattle.formats.specs.declared.Port.TheVariants.{Node, Ele, Report, Trouble, Face, Neigh}
 use Rattle.formats.specs.declared.Status.{Status}
 use Rattle.formats.specs.declared.Status.TheVariants.{Done, WriteFault, NoMemory}
-use Rattle.st_base.specs.Desk.{PortState, BeginsAs, SamePort, AppendsPart}
+use Rattle.st_base.specs.Desk.{PortState, BeginsAs, IsFile, SamePort, AppendsPart}
 
--- How far a command came: it used no port; it could not open a file; it was in the midst of a port's text, or between those of its files and that of Report; it wrote all.
+-- How far a command came: it used no port; it could not open a file; it was in the midst of a file's text, or between its files and Report, or in the midst of the text of Report; it wrote all.
 pub data Stage : Type 0 where
   Reading : Stage
-  OpeningNode : Stage
-  OpeningEle : Stage
-  WritingNode : Stage
-  WritingEle : Stage
+  Opening : Port → Stage
+  Writing : Port → Stage
   BeforeReport : Stage
   WritingReport : Stage
   Finished : Stage
 
--- how far a command can have come where memory ran out: it used no port; or, if it writes files, it had opened both and wrote one of them, or had written both
-abbrev pub LacksMemoryAt : Bool → Stage → Type 0
-LacksMemoryAt true stage = (stage ≡ Reading) ⊎ ((stage ≡ WritingNode) ⊎ ((stage ≡ WritingEle) ⊎ (stage ≡ BeforeReport)))
-LacksMemoryAt false stage = stage ≡ Reading
+-- The turn of a port. The files of a command are opened in this order, all of them before anything is written, and then written in this order.
+abbrev pub turn : Port → ℕ
+turn Node = 0
+turn Ele = 1
+turn Face = 2
+turn Neigh = 3
+turn Report = 4
+turn Trouble = 5
 
--- how far a command with a status can have come; `files` says whether it writes files
-abbrev pub EndsAt : Status → Bool → Stage → Type 0
+-- the files of a mesh, with those of faces and neighbours or without
+abbrev pub mesh_files : Bool → List Port
+mesh_files true = Node ∷ Ele ∷ Face ∷ Neigh ∷ []
+mesh_files false = Node ∷ Ele ∷ []
+
+-- whether a port is among the files of a command
+abbrev pub is_among : List Port → Port → Bool
+is_among files p = list_any (λ q. turn q == turn p) files
+
+-- how far a command can have come where memory ran out: it used no port; or, if it writes files, it had opened all and wrote one of them, or had written all
+abbrev pub LacksMemoryAt : List Port → Stage → Type 0
+LacksMemoryAt [] stage = stage ≡ Reading
+LacksMemoryAt files stage = (stage ≡ Reading) ⊎ (((p : Port) × IsTrue (is_among files p) × (stage ≡ Writing p)) ⊎ (stage ≡ BeforeReport))
+
+-- how far a command with a status can have come; `files` are the ports of its files
+abbrev pub EndsAt : Status → List Port → Stage → Type 0
 EndsAt Done files stage = stage ≡ Finished
-EndsAt (WriteFault Node) files stage = (stage ≡ OpeningNode) ⊎ (stage ≡ WritingNode)
-EndsAt (WriteFault Ele) files stage = (stage ≡ OpeningEle) ⊎ (stage ≡ WritingEle)
 EndsAt (WriteFault Report) files stage = stage ≡ WritingReport
-EndsAt (WriteFault p) files stage = ⊥
+EndsAt (WriteFault Trouble) files stage = ⊥
+EndsAt (WriteFault p) files stage = IsTrue (is_among files p) × ((stage ≡ Opening p) ⊎ (stage ≡ Writing p))
 EndsAt NoMemory files stage = LacksMemoryAt files stage
 EndsAt status files stage = stage ≡ Reading
 
@@ -49,20 +65,19 @@ pub data Extent : Type 0 where
   Part : Extent
   Whole : Extent
 
-abbrev pub node_extent : Stage → Extent
-node_extent Reading = Untouched
-node_extent OpeningNode = Unopened
-node_extent OpeningEle = Empty
-node_extent WritingNode = Part
-node_extent stage = Whole
+-- the extent of a port whose turn comes before the n-th, is it, or comes after it
+abbrev pub around : ℕ → Extent → Extent → Extent → Port → Extent
+around n before here after p = if nat_lt (turn p) n then before else if turn p == n then here else after
 
-abbrev pub ele_extent : Stage → Extent
-ele_extent Reading = Untouched
-ele_extent OpeningNode = Untouched
-ele_extent OpeningEle = Unopened
-ele_extent WritingNode = Empty
-ele_extent WritingEle = Part
-ele_extent stage = Whole
+abbrev pub extent_at : Stage → Port → Extent
+extent_at Reading p = Untouched
+extent_at (Opening q) p = around (turn q) Empty Unopened Untouched p
+extent_at (Writing q) p = around (turn q) Whole Part Empty p
+extent_at stage p = Whole
+
+-- nothing of a port is touched that is not among the command's files
+abbrev pub among : List Port → (Port → Extent) → Port → Extent
+among files extent p = if is_among files p then extent p else Untouched
 
 abbrev pub report_extent : Stage → Extent
 report_extent WritingReport = Part
@@ -101,30 +116,21 @@ ReportAt Part IsText before after = (text : List ℕ) → IsText text → Append
 ReportAt Whole IsText before after = (text : List ℕ) → IsText text → Appends before.text after.text text
 ReportAt extent IsText before after = after ≡ before
 
--- nothing of a file is touched by a command that writes none
-abbrev pub of_files : Bool → Extent → Extent
-of_files true extent = extent
-of_files false extent = Untouched
-
 -- a port has a fault exactly where the status says so
 abbrev pub TellsFault : Status → Port → PortState → Type 0
 TellsFault status p port = (status ≡ WriteFault p) ↔ (0 < port.faults)
 
--- How a command leaves the ports: `files` says whether it writes files, `name` is what they are called, and `IsText p text` that a port's text is this one. Faces and neighbours are not written.
-pub record PortsEnd {D : Type 0} (ports : D → Port → PortState) (status : Status) (files : Bool) (name : Port → List ℕ) (IsText : Port → List ℕ → Type 0) (before after : D) : Type 0 where
+-- How a command leaves the ports: `files` are the ports of its files, `name` is what they are called, and `IsText p text` says that a port's text is this one.
+pub record PortsEnd {D : Type 0} (ports : D → Port → PortState) (status : Status) (files : List Port) (name : Port → List ℕ) (IsText : Port → List ℕ → Type 0) (before after : D) : Type 0 where
   pub stage : Stage
   pub at : EndsAt status files stage
-  pub node : FileAt ports Node (of_files files (node_extent stage)) (name Node) (IsText Node) before after
-  pub ele : FileAt ports Ele (of_files files (ele_extent stage)) (name Ele) (IsText Ele) before after
+  pub file : (p : Port) → IsFile p → FileAt ports p (among files (extent_at stage) p) (name p) (IsText p) before after
   pub report : ReportAt (report_extent stage) (IsText Report) (ports before Report) (ports after Report)
-  pub face : ports after Face ≡ ports before Face
-  pub neigh : ports after Neigh ≡ ports before Neigh
   pub faults : (p : Port) → p ≢ Trouble → TellsFault status p (ports after p)
 
 -- How a command that was carried out leaves the ports: its files hold their whole texts and are finished, and Report holds its text.
-pub record HasWritten {D : Type 0} (ports : D → Port → PortState) (files : Bool) (name : Port → List ℕ) (IsText : Port → List ℕ → Type 0) (before after : D) : Type 0 where
-  pub node : FileAt ports Node (of_files files Whole) (name Node) (IsText Node) before after
-  pub ele : FileAt ports Ele (of_files files Whole) (name Ele) (IsText Ele) before after
+pub record HasWritten {D : Type 0} (ports : D → Port → PortState) (files : List Port) (name : Port → List ℕ) (IsText : Port → List ℕ → Type 0) (before after : D) : Type 0 where
+  pub file : (p : Port) → IsFile p → FileAt ports p (among files (λ q. Whole) p) (name p) (IsText p) before after
   pub report : (text : List ℕ) → IsText Report text → Appends (ports before Report).text (ports after Report).text text
 
 -- the statuses of a command whose input was read whole

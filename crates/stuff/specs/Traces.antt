@@ -5,7 +5,7 @@ use Rattle.definitions.specs.States.{Shares}
 use Rattle.formats.specs.Volumes.{Volume}
 use Rattle.formats.specs.declared.Status.{Status}
 use Rattle.formats.specs.declared.Status.TheVariants.{Done}
-use Rattle.command_line.specs.Grammar.{Command, CountSigns, MakeMesh, MakeDemo}
+use Rattle.command_line.specs.Grammar.{Command, CountSigns, MakeMesh, MakeDemo, AuditFiles, ProbePoint, StreamMesh}
 use Rattle.survey.specs.Surveys.{IsSurvey, SurveyValue}
 use Rattle.stuff.specs.Inputs.{settings_of, told_input}
 use Rattle.stuff.specs.Outputs.{field_from, usual_shares, volume_of}
@@ -36,11 +36,14 @@ abbrev pub TracesMesh : Status → Field → Shares → ℕ → Option SurveyVal
 TracesMesh Done f s slab trace = (t : SurveyValue) × (trace ≡ Some t) × IsTraceOf f s slab t
 TracesMesh status f s slab trace = trace ≡ None
 
--- the same of a command about a field; one that counts has none
+-- the same of a command about a field; one that counts or audits has none
 abbrev pub Traces : Status → Command → Field → Option SurveyValue → Type 0
 Traces status (CountSigns input level below step) f trace = trace ≡ None
 Traces status (MakeMesh m) f trace = TracesMesh status f m.shares m.plan.slab trace
 Traces status (MakeDemo size seed plan) f trace = TracesMesh status f usual_shares plan.slab trace
+Traces status (AuditFiles input) f trace = trace ≡ None
+Traces status (ProbePoint input level below step shares point) f trace = TracesMesh status f shares 4 trace
+Traces status (StreamMesh m) f trace = TracesMesh status f m.shares m.plan.slab trace
 
 -- the same of some field, whether it is told or not
 abbrev pub HasTrace : Status → Command → Option SurveyValue → Type 0

@@ -1,42 +1,60 @@
 -- What the steps of writing leave behind.
-use Rattle.std.specs.Prelude.{◌≡◌, ◌⊎◌, ◌<◌, ℕ, List, [], ◌∷◌, ◌++◌, take, false, Option, Result, Ok, Err}
-use Rattle.std.specs.Option.{option_map}
+use Rattle.std.specs.Prelude.{◌≡◌, ◌⊎◌, ◌<◌, ℕ, List, map, false, Option, Result, Ok, Err}
 use Rattle.std.specs.Io.KnownBytes.{Appends}
 use Rattle.formats.specs.declared.Port.{Port}
-use Rattle.formats.specs.declared.Port.TheVariants.{Node, Ele, Report}
+use Rattle.formats.specs.declared.Port.TheVariants.{Report}
 use Rattle.formats.specs.declared.Status.{Status}
 use Rattle.formats.specs.declared.Status.TheVariants.{Done, WriteFault, NoMemory}
-use Rattle.st_base.specs.Desk.{PortState, SamePort, AppendsPart}
-use Rattle.stuff.specs.Ports.{IsOpened}
+use Rattle.st_base.specs.Desk.{PortState, IsFile, AppendsPart}
+use Rattle.node_ele_write.specs.declared.PutFault.{PutFault}
+use Rattle.node_ele_write.specs.declared.PutFault.TheVariants as put
+use Rattle.file_audit.specs.Status.{GrowsAlong, with_names}
+use Rattle.stuff.specs.declared.outputs.MeshFile.{MeshFile}
+use Rattle.stuff.specs.Ports.{Extent, Untouched, Empty, Whole, FileAt, HasNoFault, PortsEnd, among, around}
 
--- both files were opened
-pub record BothOpen (node ele : PortState) (node_name ele_name : List ℕ) : Type 0 where
-  pub node_open : IsOpened node node_name
-  pub node_faults : node.faults ≡ 0
-  pub ele_open : IsOpened ele ele_name
-  pub ele_faults : ele.faults ≡ 0
+-- Where no fault has come yet: what each file holds. Report is as it was.
+pub record Stands {D : Type 0} (ports : D → Port → PortState) (files : List Port) (extent : Port → Extent) (name : Port → List ℕ) (IsText : Port → List ℕ → Type 0) (before now : D) : Type 0 where
+  pub file : (p : Port) → IsFile p → FileAt ports p (among files extent p) (name p) (IsText p) before now
+  pub report : ports now Report ≡ ports before Report
+  pub none : HasNoFault (ports now)
 
--- one of them could not be opened
-abbrev pub OneFails : Status → PortState → PortState → PortState → PortState → List ℕ → Type 0
-OneFails status node ele node_after ele_after node_name =
-    ((status ≡ WriteFault Node) × SamePort node node_after × (0 < node_after.faults) × (ele_after ≡ ele))
-    ⊎ ((status ≡ WriteFault Ele) × IsOpened node_after node_name × (node_after.faults ≡ 0) × SamePort ele ele_after × (0 < ele_after.faults))
+-- the first n files were opened
+abbrev pub AreOpened : {D : Type 0} → (D → Port → PortState) → List Port → ℕ → (Port → List ℕ) → (Port → List ℕ → Type 0) → D → D → Type 0
+AreOpened ports files n name IsText before now = Stands ports files (around n Empty Untouched Untouched) name IsText before now
 
-abbrev pub OpensFiles : {T : Type 0} → Result T Status → PortState → PortState → PortState → PortState → List ℕ → List ℕ → Type 0
-OpensFiles (Ok x) node ele node_after ele_after node_name ele_name = BothOpen node_after ele_after node_name ele_name
-OpensFiles (Err status) node ele node_after ele_after node_name ele_name = OneFails status node ele node_after ele_after node_name
+-- all files were opened, and the first n of them written and finished
+abbrev pub AreWritten : {D : Type 0} → (D → Port → PortState) → List Port → ℕ → (Port → List ℕ) → (Port → List ℕ → Type 0) → D → D → Type 0
+AreWritten ports files n name IsText before now = Stands ports files (around n Whole Empty Empty) name IsText before now
 
--- a told list of names has grown by some first ones of these
-abbrev pub GrowsAlong : List (List ℕ) → Option (List (List ℕ)) → Option (List (List ℕ)) → Type 0
-GrowsAlong names old new = (n : ℕ) × (new ≡ option_map (λ tried. tried ++ take n names) old)
+-- a step of writing brought the command to where the first n files are written, or ended it
+abbrev pub Reaches : {D T : Type 0} → Result T Status → (D → Port → PortState) → List Port → ℕ → (Port → List ℕ) → (Port → List ℕ → Type 0) → D → D → Type 0
+Reaches (Ok x) ports files n name IsText before now = AreWritten ports files n name IsText before now
+Reaches (Err status) ports files n name IsText before now = PortsEnd ports status files name IsText before now
 
--- a told list of names has grown by all of these
-abbrev pub with_names : Option (List (List ℕ)) → List (List ℕ) → Option (List (List ℕ))
-with_names tried names = option_map (λ told. told ++ names) tried
+-- so it does wherever the first m were written before it
+abbrev pub Continues : {D T : Type 0} → Result T Status → (D → Port → PortState) → List Port → ℕ → ℕ → (Port → List ℕ) → (Port → List ℕ → Type 0) → D → D → Type 0
+Continues {D} result ports files m n name IsText old new = (before : D) → AreWritten ports files m name IsText before old → Reaches result ports files n name IsText before new
 
-abbrev pub TriesFiles : {T : Type 0} → Result T Status → Option (List (List ℕ)) → Option (List (List ℕ)) → List ℕ → List ℕ → Type 0
-TriesFiles (Ok x) old new node_name ele_name = new ≡ with_names old (node_name ∷ ele_name ∷ [])
-TriesFiles (Err status) old new node_name ele_name = GrowsAlong (node_name ∷ ele_name ∷ []) old new
+-- the text of a port is this one
+abbrev pub IsThis : (Port → List ℕ) → Port → List ℕ → Type 0
+IsThis texts p text = text ≡ texts p
+
+-- the ports and the names of files that are to be opened
+abbrev pub ports_of : List MeshFile → List Port
+ports_of files = map (λ f. f.port) files
+
+abbrev pub names_of : List MeshFile → List (List ℕ)
+names_of files = map (λ f. f.name.items) files
+
+abbrev pub TriesFiles : {T : Type 0} → Result T Status → List (List ℕ) → Option (List (List ℕ)) → Option (List (List ℕ)) → Type 0
+TriesFiles (Ok x) names old new = new ≡ with_names old names
+TriesFiles (Err status) names old new = GrowsAlong names old new
+
+-- a text was written to a port, or some first bytes of it before a fault or the end of memory
+abbrev pub HasPut : {T : Type 0} → Result T PutFault → PortState → PortState → List ℕ → Type 0
+HasPut (Ok x) before after text = Appends before.text after.text text × (after.name ≡ before.name) × (after.faults ≡ 0)
+HasPut (Err put.WriteFault) before after text = AppendsPart before.text after.text text × (after.name ≡ before.name) × (0 < after.faults)
+HasPut (Err put.NoMemory) before after text = AppendsPart before.text after.text text × (after.name ≡ before.name) × (after.faults ≡ 0)
 
 -- a file was written and finished
 pub record IsWritten (before after : PortState) (text : List ℕ) : Type 0 where

@@ -1,4 +1,4 @@
-ghost use Rattle.std.specs.Prelude.{◌≡◌, ◌≢◌, ◌++◌, ◌≤◌, ℕ, List, true, false, IfOk, None};
+ghost use Rattle.std.specs.Prelude.{◌≡◌, ◌≢◌, ◌++◌, [], ◌≤◌, ℕ, List, true, IfOk, None};
 ghost use Rattle.formats.specs.declared.Port.{Port};
 ghost use Rattle.formats.specs.declared.Port.TheVariants.{Report, Trouble};
 ghost use Rattle.formats.specs.Texts.{sign_line};
@@ -137,7 +137,7 @@ pub fn make_demo<D: Desk, G: Gate + Sync, R: Threads + Sync>(
     ensures trace { TracesMesh result (demo_field size seed) usual_shares plan.slab trace.new }
     ensures kind { IsAtOutput result }
     ensures report_open { (D.ports desk.new Report).is_open ≡ true }
-    ensures ends { (name : Port → List ℕ) → PortsEnd D.ports result false name (λ p text. text ≡ demo_text (demo_field size seed) p) desk.old desk.new }
+    ensures ends { (name : Port → List ℕ) → PortsEnd D.ports result [] name (λ p text. text ≡ demo_text (demo_field size seed) p) desk.old desk.new }
     ensures no_memory { result ≡ Status.NoMemory → (p : Port) → p ≢ Trouble → D.ports desk.new p ≡ D.ports desk.old p }
     ensures apart { OnlyPort D.Desk Report desk.old desk.new }
 {

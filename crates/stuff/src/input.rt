@@ -4,6 +4,7 @@ ghost use Rattle.formats.specs.Faults.{status_of};
 ghost use Rattle.st_base.specs.Causes.{Rose};
 ghost use Rattle.st_base.specs.Frames.{OnlyInput};
 ghost use Rattle.slab_work.specs.Surveyed.{AreKept};
+ghost use Rattle.stuff.specs.Inputs.{outcome_of};
 ghost use Rattle.stuff.specs.Ends.{IsRefusal, ReadsInput, ReadsField};
 ghost use Rattle.stuff.specs.Refusals.{status_of_volume};
 
@@ -51,7 +52,7 @@ pub fn read_input<D: Desk>(
     requires step { 1 ≤ step }
     requires step_bound { step ≤ 64 }
     requires is_open { (D.input desk.old).is_open ≡ true }
-    ensures told { (text : List ℕ) → (D.input desk.old).left ≡ Some text → ReadsInput result world step text (D.input desk.new).left }
+    ensures told { (text : List ℕ) → (D.input desk.old).left ≡ Some text → ReadsInput result (outcome_of world step text) text (D.input desk.new).left }
     ensures sizes { IfOk result (λ r. AreKept step r.0.dims) }
     ensures axes { IfOk result (λ r. AreAxes r.1) }
     ensures refusal { IfErr result IsRefusal }

@@ -6,11 +6,17 @@
 //! ```
 #![tactic(auto)]
 
+mod audit;
 mod demo;
+mod faces;
 mod files;
+mod finished;
 mod input;
+mod lines;
 mod mesh;
 mod outcome;
+mod outputs;
+mod probe;
 mod run;
 mod signs;
 mod surveyed;

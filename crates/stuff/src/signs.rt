@@ -1,4 +1,4 @@
-ghost use Rattle.std.specs.Prelude.{◌≡◌, ◌≢◌, ◌++◌, ℕ, List, true, false, IfOk, OnOk, decimal};
+ghost use Rattle.std.specs.Prelude.{◌≡◌, ◌≢◌, ◌++◌, [], ℕ, List, true, IfOk, OnOk, decimal};
 ghost use Rattle.formats.specs.declared.Port.{Port};
 ghost use Rattle.formats.specs.declared.Port.TheVariants.{Report, Trouble};
 ghost use Rattle.st_base.specs.Frames.{OnlyPort};
@@ -52,7 +52,7 @@ pub fn write_signs<D: Desk>(alloc: Global, desk: &mut D, field: &Field) -> Statu
     requires faults { (p : Port) → p ≢ Trouble → (D.ports desk.old p).faults ≡ 0 }
     ensures kind { IsAtOutput result }
     ensures report_open { (D.ports desk.new Report).is_open ≡ true }
-    ensures ends { (name : Port → List ℕ) → PortsEnd D.ports result false name (λ p text. text ≡ signs_text field.now p) desk.old desk.new }
+    ensures ends { (name : Port → List ℕ) → PortsEnd D.ports result [] name (λ p text. text ≡ signs_text field.now p) desk.old desk.new }
     ensures apart { OnlyPort D.Desk Report desk.old desk.new }
 {
     match sign_text(alloc, field) {

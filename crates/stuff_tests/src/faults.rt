@@ -3,7 +3,7 @@ ghost use Rattle.std.specs.Prelude.{IfOk};
 ghost use Rattle.st_base.specs.Desk.{IsStart};
 ghost use Rattle.desk_mem.specs.Meanings.{mem_input, mem_ports, mem_tried};
 
-use crate::ports::{NODES, TETRAHEDRA};
+use crate::ports::whole;
 use crate::rows::{PLAIN, desk_of, words_of};
 use desk_mem::MemDesk;
 use st_base::{NoMemory, OpenGate, Port, Words};
@@ -14,20 +14,10 @@ use stuff::stuff;
 
 const COUNT: &[u8] = b"count a level=0.5";
 
-// The report of the mesh of one sample.
-const REPORT: &[u8] =
-    b"nodes 15\ntetrahedra 24\nleast +1/4 tetrahedron 0 edge 1 7\ngreatest 0/1 tetrahedron 0 edge 0 7\n";
+// The ports in the order in which they are written, with faces and without.
+const ALL: [Port; 5] = [Port::Node, Port::Ele, Port::Face, Port::Neigh, Port::Report];
 
-// The ports in the order in which they are written.
-const PORTS: [Port; 3] = [Port::Node, Port::Ele, Port::Report];
-
-fn whole(port: Port) -> &'static [u8] {
-    match port {
-        Port::Node => NODES,
-        Port::Ele => TETRAHEDRA,
-        _ => REPORT,
-    }
-}
+const MOST: [Port; 3] = [Port::Node, Port::Ele, Port::Report];
 
 // A desk that holds the first bytes of the input of one sample.
 fn cut_desk(alloc: Global, len: usize) -> Result<MemDesk, NoMemory>
@@ -98,11 +88,12 @@ fn reads_fail_at_each_byte(rt: HostRuntime) {
     }
 }
 
-// Makes a mesh where writing to a port fails after so many bytes.
+// Makes a mesh where writing to one of its ports fails after so many bytes.
 fn check_write<R: Threads + Sync + Abort>(
     rt: &R,
     alloc: Global,
     words: &Words,
+    ports: &[Port],
     failing: Port,
     bytes: usize,
     slow: bool,
@@ -115,14 +106,14 @@ fn check_write<R: Threads + Sync + Abort>(
     let outcome = stuff(rt, alloc, words, &mut desk, &OpenGate);
     assert_eq!(rt; outcome.status.code(), 8, "after {bytes} bytes");
     let mut is_before = true;
-    for port in PORTS {
-        let text = desk.text(port);
-        if port == failing {
+    for port in ports {
+        let text = desk.text(*port);
+        if *port == failing {
             is_before = false;
             assert!(rt; text.len() == bytes, "after {bytes} bytes");
-            assert!(rt; whole(port).starts_with(text), "after {bytes} bytes");
+            assert!(rt; whole(*port).starts_with(text), "after {bytes} bytes");
         } else if is_before {
-            assert!(rt; text == whole(port), "after {bytes} bytes");
+            assert!(rt; text == whole(*port), "after {bytes} bytes");
         } else {
             assert!(rt; text.is_empty(), "after {bytes} bytes");
         }
@@ -132,12 +123,20 @@ fn check_write<R: Threads + Sync + Abort>(
 #[test]
 fn writes_fail_at_each_byte(rt: HostRuntime) {
     let alloc = rt.alloc();
-    let one = words_of(alloc, b"mesh a out level=0.5 workers=1").expect(&rt, "memory");
-    let three = words_of(alloc, b"mesh a out level=0.5 workers=3 slab=1").expect(&rt, "memory");
-    for port in PORTS {
+    let meshed = words_of(alloc, b"mesh a out level=0.5 workers=3 slab=1 faces=yes").expect(
+        &rt, "memory",
+    );
+    let streamed = words_of(alloc, b"stream a out level=0.5 workers=2 slab=1").expect(
+        &rt, "memory",
+    );
+    for port in ALL {
         for bytes in 0..whole(port).len() {
-            check_write(&rt, alloc, &one, port, bytes, true);
-            check_write(&rt, alloc, &three, port, bytes, false);
+            check_write(&rt, alloc, &meshed, &ALL, port, bytes, true);
+        }
+    }
+    for port in MOST {
+        for bytes in 0..whole(port).len() {
+            check_write(&rt, alloc, &streamed, &MOST, port, bytes, false);
         }
     }
 }

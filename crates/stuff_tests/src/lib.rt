@@ -6,6 +6,8 @@ mod faults;
 #[cfg(test)]
 mod files;
 #[cfg(test)]
+mod finished;
+#[cfg(test)]
 mod lines;
 #[cfg(test)]
 mod meshes;

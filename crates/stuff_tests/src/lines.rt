@@ -33,6 +33,18 @@ meet a | | | 2 | stuff: bad words at 0
 mesh a | | | 2 | stuff: bad words at 2
 mesh a out level=1 level=2 | | | 2 | stuff: bad words at 4
 mesh a out level=0.5 first=2 | | | 2 | stuff: bad words at 4
+stream a out level=0.5 faces=yes | | | 2 | stuff: bad words at 4
+mesh a out level=0.5 faces=no | | | 2 | stuff: bad words at 4
+mesh a out level=0.5 faces=yes faces=yes | | | 2 | stuff: bad words at 5
+stream a | | | 2 | stuff: bad words at 2
+audit | | | 2 | stuff: bad words at 1
+audit a b | | | 2 | stuff: bad words at 2
+audit a level=1 | | | 2 | stuff: bad words at 2
+probe a | | | 2 | stuff: bad words at 2
+probe a level=1 | | | 2 | stuff: bad words at 3
+probe a at=0,0,0 | | | 2 | stuff: bad words at 3
+probe a level=1 at=0,0 | | | 2 | stuff: bad words at 3
+probe a level=1 at=0,0,1099511627776 | | | 2 | stuff: bad words at 3
 mesh a out level=0.5 units=mm | | | 2 | stuff: bad words at 4
 count a level=0.5 units=world | | | 2 | stuff: bad words at 3
 demo size=2 seed=7 first=1 | | | 2 | stuff: bad words at 3
@@ -90,6 +102,10 @@ count a level=0.5 | plain | | 6 | stuff: truncated: 0 of 1 bytes
 mesh a out level=0.5 | MET_UCHAR 2 1 1 | 01 | 6 | stuff: truncated: 1 of 2 bytes
 count a level=0.5 | MET_SHORT 64 64 64 | 01*524287 | 6 | stuff: truncated: 524287 of 524288 bytes
 count b level=0.5 | plain | 01 | 7 | stuff: read fault
+stream b out level=0.5 | plain | 01 | 7 | stuff: read fault
+audit a | plain | 01 | 7 | stuff: read fault
+probe b level=0.5 at=0,0,0 | plain | 01 | 7 | stuff: read fault
+probe a level=0.5 at=0,0,0 | MET_UCHAR 2 1 1 | 01 | 6 | stuff: truncated: 1 of 2 bytes
 ";
 
 // Carries out a row, and compares.
@@ -115,7 +131,7 @@ fn check<R: Threads + Sync + Abort>(rt: &R, alloc: Global, n: u32, row: &[u8]) {
         (Port::Trouble, Port::Report)
     };
     assert!(rt; desk.text(told) == line.as_slice(), "in row {n}");
-    for port in [quiet, Port::Node, Port::Ele] {
+    for port in [quiet, Port::Node, Port::Ele, Port::Face, Port::Neigh] {
         assert!(rt; desk.text(port).is_empty(), "in row {n}");
     }
 }

@@ -1,7 +1,7 @@
 //! Meshes: their files, and what is told of them.
 ghost use Rattle.std.specs.Prelude.{◌≡◌};
 
-use crate::rows::{cut, desk_of, field, fits, text_of, words_of};
+use crate::rows::{can_stream, cut, desk_of, field, fits, text_of, words_as, words_of};
 use desk_mem::MemDesk;
 use st_base::{OpenGate, Port, Status};
 use std::alloc::Global;
@@ -9,12 +9,15 @@ use std::process::Abort;
 use std::thread::Threads;
 use stuff::stuff;
 
-// Words, head, samples, the nodes, the tetrahedra, and the report.
+// Words, head, samples, the nodes, the tetrahedra, and the report. A small mesh is streamed too, with the same answer.
 const MESHES: &[u8] = b"\
 mesh a out level=0.5 | MET_UCHAR 1 1 1 | 01 | 15 3 0 1;0 0.0000000000000 0.0000000000000 -0.5000000000000 1;1 -0.2857666015625 -0.2857666015625 -0.2857666015625 1;.. | 24 4 0;0 0 1 2 7;1 0 1 7 3;.. | nodes 15;tetrahedra 24;least +1/4 tetrahedron 0 edge 1 7;greatest 0/1 tetrahedron 0 edge 0 7;
 mesh a out level=0.5 workers=1 slab=1 | MET_UCHAR 1 1 1 | 01 | same | same | same
 mesh a out workers=2 level=0.5 slab=1 | MET_UCHAR 1 1 1 | 01 | same | same | same
 mesh a out slab=1 workers=64 level=0.5 | MET_UCHAR 1 1 1 | 01 | same | same | same
+stream a out workers=1 slab=1 level=0.5 | MET_UCHAR 1 1 1 | 01 | same | same | same
+stream a out level=0.5 slab=1 workers=64 | MET_UCHAR 1 1 1 | 01 | same | same | same
+mesh a out level=0.5 faces=yes | MET_UCHAR 1 1 1 | 01 | same | same | same
 mesh a out workers=64 below=yes slab=1 level=-0.5 | MET_CHAR 1 1 1 | ff | same | same | same
 mesh a out first=0 level=0.5 | MET_UCHAR 1 1 1 | 01 | ..;7 0.0000000000000 0.0000000000000 0.0000000000000 0;8 0.5000000000000 0.0000000000000 0.0000000000000 1; | 24 4 0;0 0 1 2 7;1 0 1 7 3;.. | nodes 15;tetrahedra 24;least +1/4 tetrahedron 0 edge 1 7;greatest 0/1 tetrahedron 0 edge 0 7;
 mesh a out level=0.5 first=1 | MET_UCHAR 1 1 1 | 01 | 15 3 0 1;1 0.0000000000000 0.0000000000000 -0.5000000000000 1;.. | 24 4 0;1 1 2 3 8;2 1 2 8 4;.. | nodes 15;tetrahedra 24;least +1/4 tetrahedron 1 edge 2 8;greatest 0/1 tetrahedron 1 edge 1 8;
@@ -40,6 +43,7 @@ mesh a out level=0.5 | MET_UCHAR 2 2 2 | 01*8 | 59 3 0 1;.. | 144 4 0;.. | nodes
 mesh a out level=0.5 | MET_CHAR 2 2 2 | 02*4 fe*4 | .. 0.3750000000000 0.3750000000000 0.3750000000000 1; | .. | ..
 mesh a out level=0.5 workers=1 | MET_CHAR 2 2 2 | 02*4 fe*4 | ! 0.5000000000000 0.5000000000000 0.5000000000000 | same | same
 mesh a out level=-300 | MET_SHORT 64 64 64 | box | 75221 3 0 1;.. | 406248 4 0;.. | nodes 75221;tetrahedra 406248;least +..
+stream a out level=-300 workers=2 slab=1 | MET_SHORT 64 64 64 | box | same | same | same
 mesh a out level=-300 workers=3 | NDims = 3;DimSize = 64 64 64;ElementType = MET_SHORT;ElementByteOrderMSB = True;ElementDataFile = LOCAL; | turned box | same | same | same
 mesh a out level=0.5 | MET_UCHAR 8192 1 1 | 01*8192 | .. | .. | nodes ..
 demo size=1 seed=7 | | | | | plus 1 zero 0 minus 34;nodes 15;tetrahedra 24;least +1/4 tetrahedron 0 edge 1 7;greatest 0/1 tetrahedron 0 edge 0 7;
@@ -82,6 +86,30 @@ fn check<R: Threads + Sync + Abort>(
     desk
 }
 
+// Streams the mesh of a row, and compares with what was written of it.
+fn check_streamed<R: Threads + Sync + Abort>(
+    rt: &R,
+    alloc: Global,
+    n: u32,
+    row: &[u8],
+    made: &MemDesk,
+) {
+    let (words, rest) = field(row);
+    let (head, rest) = field(rest);
+    let (samples, _) = field(rest);
+    if !can_stream(words) || samples.ends_with(b"box") || samples.ends_with(b"8192") {
+        return;
+    }
+    let words = words_as(alloc, words, true).expect(rt, "memory");
+    let mut desk = desk_of(alloc, head, samples).expect(rt, "memory");
+    let outcome = stuff(rt, alloc, &words, &mut desk, &OpenGate);
+    assert!(rt; outcome.status == Status::Done, "in row {n}");
+    assert!(rt; outcome.trace.is_some(), "in row {n}");
+    for port in [Port::Node, Port::Ele, Port::Report, Port::Trouble] {
+        assert!(rt; desk.text(port) == made.text(port), "in row {n}");
+    }
+}
+
 #[test]
 fn writes_meshes(rt: HostRuntime) {
     let mut rest = MESHES;
@@ -92,6 +120,7 @@ fn writes_meshes(rt: HostRuntime) {
         let (row, behind) = cut(rest, b'\n');
         n = n.wrapping_add(1);
         before = check(&rt, alloc, n, row, &before);
+        check_streamed(&rt, alloc, n, row, &before);
         rest = behind;
     }
 }

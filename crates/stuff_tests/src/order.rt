@@ -1,5 +1,5 @@
 //! In which order a mesh is made and written: no file is opened before all slabs were surveyed, and no more lines
-//! are made between two writes than those of a round.
+//! are made between two writes than those of a round, or of two where it is streamed.
 use crate::rows::{cut, desk_of, field, number, words_of};
 use desk_mem::MemDesk;
 use st_base::{Desk, Failed, Gate, Port, Status};
@@ -98,17 +98,24 @@ impl Desk for Watched<'_> {
     }
 }
 
-// Words, a head, samples; how often the gate was passed when the files were opened, between two writes at most, and in
-// all. A mesh passes it three times for each slab, a demo twice, and a command that makes no mesh never. A round has
-// four slabs for each worker.
+// Words, a head, samples; how often the gate was passed when the files were opened, between two writes at least and at
+// most, and in all. A mesh passes it three times for each slab, a demo twice, a point once, and a command that makes no
+// mesh never. A round has four slabs for each worker. Where a round is streamed while the next is made, up to two can
+// be made between two writes.
 const ORDERS: &[u8] = b"\
-mesh a out level=0.5 workers=1 slab=1 | MET_UCHAR 1 1 16 | 01*16 | 18 | 4 | 54
-mesh a out level=0.5 workers=3 slab=1 | MET_UCHAR 1 1 16 | 01*16 | 18 | 12 | 54
-mesh a out level=0.5 workers=1 slab=2 | MET_UCHAR 1 1 16 | 01*16 | 9 | 4 | 27
-mesh a out level=0.5 | MET_UCHAR 2 2 2 | 01*7 | 0 | 0 | 0
-mesh b out level=0.5 | MET_UCHAR 2 2 2 | 01*8 | 0 | 0 | 0
-count a level=0.5 | MET_UCHAR 1 1 16 | 01*16 | 0 | 0 | 0
-demo size=16 seed=7 workers=1 slab=1 | plain | 01 | 0 | 36 | 36
+mesh a out level=0.5 workers=1 slab=1 | MET_UCHAR 1 1 16 | 01*16 | 18 | 4 | 4 | 54
+mesh a out level=0.5 workers=3 slab=1 | MET_UCHAR 1 1 16 | 01*16 | 18 | 12 | 12 | 54
+mesh a out level=0.5 workers=1 slab=2 | MET_UCHAR 1 1 16 | 01*16 | 9 | 4 | 4 | 27
+mesh a out level=0.5 workers=1 slab=1 faces=yes | MET_UCHAR 1 1 16 | 01*16 | 18 | 4 | 4 | 54
+stream a out level=0.5 workers=1 slab=1 | MET_UCHAR 1 1 16 | 01*16 | 18 | 4 | 8 | 54
+stream a out level=0.5 workers=3 slab=1 | MET_UCHAR 1 1 16 | 01*16 | 18 | 12 | 18 | 54
+mesh a out level=0.5 | MET_UCHAR 2 2 2 | 01*7 | 0 | 0 | 0 | 0
+mesh b out level=0.5 | MET_UCHAR 2 2 2 | 01*8 | 0 | 0 | 0 | 0
+stream b out level=0.5 | MET_UCHAR 2 2 2 | 01*8 | 0 | 0 | 0 | 0
+count a level=0.5 | MET_UCHAR 1 1 16 | 01*16 | 0 | 0 | 0 | 0
+probe a level=0.5 at=0,0,0 | MET_UCHAR 1 1 16 | 01*16 | 0 | 5 | 5 | 5
+audit a | MET_UCHAR 1 1 16 | 01*16 | 0 | 0 | 0 | 0
+demo size=16 seed=7 workers=1 slab=1 | plain | 01 | 0 | 36 | 36 | 36
 ";
 
 // Carries out a row, and compares.
@@ -117,6 +124,7 @@ fn check<R: Threads + Sync + Abort>(rt: &R, alloc: Global, n: u32, row: &[u8]) {
     let (head, rest) = field(rest);
     let (samples, rest) = field(rest);
     let (opened, rest) = field(rest);
+    let (least, rest) = field(rest);
     let (most, rest) = field(rest);
     let (all, _) = field(rest);
     let words = words_of(alloc, words).expect(rt, "memory");
@@ -130,11 +138,12 @@ fn check<R: Threads + Sync + Abort>(rt: &R, alloc: Global, n: u32, row: &[u8]) {
     for (seen, wanted) in [
         (&order.at_node, opened),
         (&order.at_ele, opened),
-        (&order.most, most),
         (&order.passed, all),
     ] {
         assert_eq!(rt; seen.load(Ordering::SeqCst), number(wanted), "in row {n}");
     }
+    let seen = order.most.load(Ordering::SeqCst);
+    assert!(rt; number(least) <= seen && seen <= number(most), "in row {n}");
 }
 
 #[test]

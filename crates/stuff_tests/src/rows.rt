@@ -5,44 +5,22 @@
 //! samples of a box, two bytes each, and `turned box` the same with the greater byte first. A head is `plain`, or a
 //! type and sizes, or a text. Where a text is wanted, `..` at its end or begin leaves open what follows or stands
 //! before, and `!` says that it is no part; `same` is the text of the row before.
-ghost use Rattle.std.specs.Prelude.{◌<◌, IfOk, length};
+ghost use Rattle.std.specs.Prelude.{◌<◌, IfOk};
 ghost use Rattle.st_base.specs.Desk.{IsStart};
 ghost use Rattle.desk_mem.specs.Meanings.{mem_input, mem_ports, mem_tried};
 
 use desk_mem::MemDesk;
 use st_base::{NoMemory, Port, Words};
 use std::alloc::{AllocError, Global};
+pub use table_lines::{cut, field};
 
 /// The head of one sample.
 pub const PLAIN: &[u8] =
     b"ObjectType = Image\nNDims = 3\nBinaryData = True\nBinaryDataByteOrderMSB = False\nCompressedData = False\nTransformMatrix = 1 0 0 0 1 0 0 0 1\nOffset = 0 0 0\nCenterOfRotation = 0 0 0\nAnatomicalOrientation = RAI\nElementSpacing = 1 1 1\nDimSize = 1 1 1\nElementType = MET_UCHAR\nElementDataFile = LOCAL\n";
 
-/// What stands before the first mark, and what stands behind it.
-pub fn cut(text: &[u8], mark: u8) -> (&[u8], &[u8])
-    ensures { 0 < length text.now → length result.1.now < length text.now }
-{
-    for (i, byte) in text.iter().enumerate() {
-        if *byte == mark {
-            return (&text[..i], &text[i + 1..]);
-        }
-    }
-    (text, b"")
-}
-
-/// The next field of a row, and what stands behind it.
-pub fn field(row: &[u8]) -> (&[u8], &[u8]) {
-    let (field, rest) = cut(row, b'|');
-    (field.trim_ascii(), rest)
-}
-
+/// The number that some decimal digits are.
 pub fn number(text: &[u8]) -> u64 {
-    let mut number = 0u64;
-    for digit in text {
-        number = number
-            .wrapping_mul(10)
-            .wrapping_add(u64::from(digit.wrapping_sub(b'0')));
-    }
-    number
+    u64::from(table_lines::number(text))
 }
 
 fn half_byte(digit: u8) -> u8 {
@@ -53,20 +31,30 @@ fn half_byte(digit: u8) -> u8 {
     }
 }
 
-/// The words that blanks part.
-pub fn words_of(alloc: Global, text: &[u8]) -> Result<Words, NoMemory> {
+// The word that stands at a place of a row.
+fn word_of(word: &[u8], streamed: bool) -> &[u8] {
+    match word {
+        b"_" => b"",
+        b"mesh" if streamed => b"stream",
+        _ => word,
+    }
+}
+
+/// The words that blanks part, with `stream` in place of `mesh` where that is asked.
+pub fn words_as(alloc: Global, text: &[u8], streamed: bool) -> Result<Words, NoMemory> {
     let mut words = Words::new(alloc);
     let mut rest = text;
     while !rest.is_empty() {
         let (word, behind) = cut(rest, b' ');
-        words.push(if word == b"_".as_slice() {
-            b"".as_slice()
-        } else {
-            word
-        })?;
+        words.push(word_of(word, streamed))?;
         rest = behind;
     }
     Ok(words)
+}
+
+/// The words that blanks part.
+pub fn words_of(alloc: Global, text: &[u8]) -> Result<Words, NoMemory> {
+    words_as(alloc, text, false)
 }
 
 /// A text with its newlines.
@@ -169,6 +157,11 @@ fn has(text: &[u8], part: &[u8]) -> bool {
     false
 }
 
+/// Whether the words are those of a mesh that can be streamed: one without faces.
+pub fn can_stream(words: &[u8]) -> bool {
+    words.starts_with(b"mesh ") && !has(words, b" faces=")
+}
+
 /// Whether a text is as wanted; `before` is that of the row before.
 pub fn fits(text: &[u8], wanted: &[u8], before: &[u8]) -> bool {
     match wanted {
@@ -186,6 +179,8 @@ pub fn port_of(name: &[u8]) -> Port {
         b"node" => Port::Node,
         b"ele" => Port::Ele,
         b"trouble" => Port::Trouble,
+        b"face" => Port::Face,
+        b"neigh" => Port::Neigh,
         _ => Port::Report,
     }
 }

@@ -72,7 +72,15 @@ mesh a out level=0.5 workers=8 slab=1 | 3 | 5 | 12
 mesh a out level=1 workers=1 slab=1 | 3 | 5 | 5
 demo size=1 seed=7 workers=1 slab=1 | 3 | 5 | 5
 demo size=1 seed=7 workers=3 slab=1 | 3 | 5 | 12
+mesh a out level=0.5 workers=1 slab=1 faces=yes | 3 | 5 | 5
+stream a out level=0.5 workers=1 slab=1 | 3 | 5 | 5
+stream a out level=0.5 workers=8 slab=1 | 3 | 5 | 12
+probe a level=0.5 at=0,0,0 | 1 | 5 | 5
+probe a level=0.5 at=0,0,-4097 | 1 | 5 | 5
+audit a
 mesh b out level=0.5
+stream b out level=0.5
+probe b level=0.5 at=0,0,0
 ";
 
 // Carries out a row, and compares.

@@ -4,18 +4,17 @@ use Rattle.definitions.specs.declared.Dims.{Dims}
 use Rattle.definitions.specs.Lattice.{layers}
 use Rattle.definitions.specs.Layout.{reach, reach_from, reach_to, slabs}
 use Rattle.list_words.specs.Words.{has, EachOnce}
-use Rattle.list_words.proofs.Lists.{has_among}
+use Rattle.list_words.proofs.Lists.{has_among, each_stands}
 use Rattle.list_words.proofs.Sums.{sum_once}
 use Rattle.slab_core.specs.States.{new_core}
 use Rattle.slab_core.proofs.Consequences.{all_reaches}
 use Rattle.slab_claims.specs.Seats.{DrawnValue}
 use Rattle.survey_workers.specs.Going.{reached, KnowsReaches}
 use Rattle.survey_workers.proofs.Slabs.{reach_of, slab_of}
-use Rattle.survey_workers.proofs.Tables.{each_drawn}
 
 pub all_known : (d : Dims) (t : ℕ) (drawn seen : List ℕ) → 1 ≤ t → EachOnce (slabs d t) drawn → KnowsReaches d t drawn seen → (h : ℕ) → h < layers d → has h seen ≡ true
 all_known d t drawn seen some once knows h below =
-    has_among h (reach d t (h / (2 * t))) seen (knows (h / (2 * t)) (each_drawn (slabs d t) (h / (2 * t)) drawn once (slab_of d t h some below).0)) (reach_of d t h some below)
+    has_among h (reach d t (h / (2 * t))) seen (knows (h / (2 * t)) (each_stands (slabs d t) (h / (2 * t)) drawn once (slab_of d t h some below).0)) (reach_of d t h some below)
 
 pub few_made : (d : Dims) (t : ℕ) (drawn made : List ℕ) → 1 ≤ t → EachOnce (slabs d t) drawn → length made ≤ reached d t drawn → length made ≤ layers d + 4 * (slabs d t - 1)
 few_made d t drawn made some once few =

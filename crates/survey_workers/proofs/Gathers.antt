@@ -4,12 +4,12 @@ use Rattle.std.specs.List.{range_with_len}
 use Rattle.std.proofs.lemmas.List.{get_or-map, length-map}
 use Rattle.std.proofs.lemmas.List.Elements.{All-append, All-cons, All-nil}
 use Rattle.std.proofs.lemmas.List.Sums.{sum_by-append}
+use Rattle.std.proofs.lemmas.Bool.{and_parts, or_cases, or_left, or_right}
 use Rattle.definitions.specs.declared.Dims.{Dims}
 use Rattle.definitions.specs.Lattice.{layers}
 use Rattle.definitions.specs.Layout.{reach, reach_from, reach_to, slab_from, slab_to}
 use Rattle.definitions.specs.States.{states}
 use Rattle.list_words.specs.Words.{has, has_all}
-use Rattle.list_words.proofs.Tests.{and_true, either_true, or_left, or_right}
 use Rattle.list_words.proofs.Lists.{has_append}
 use Rattle.slab_claims.specs.Seats.{ClaimsValue, SeatValue}
 use Rattle.layer_cells.specs.Seats.{CellsValue, CellSeatValue, Subject}
@@ -50,15 +50,15 @@ knows_both : (d : Dims) (t : ℕ) (x y s u : List ℕ) → KnowsReaches d t x s 
 knows_both d t x y s u p q j e = ⊎_elim
     (λ (l : has j x ≡ true). left (reach d t j) (p j l))
     (λ (r : has j y ≡ true). right (reach d t j) (q j r))
-    (either_true (has j x) (has j y) (sym (has_append j x y) ∙ e))
+    (or_cases (has j x) (has j y) (sym (has_append j x y) ∙ e))
   where
     left : (hs : List ℕ) → has_all hs s ≡ true → has_all hs (s ++ u) ≡ true
     left [] all = refl
-    left (h ∷ hs) all = let a = and_true (has h s) (has_all hs s) all in λ i. (has_append h s u ∙ or_left (has h s) (has h u) a.0) i && left hs a.1 i
+    left (h ∷ hs) all = let a = and_parts (has h s) (has_all hs s) all in λ i. (has_append h s u ∙ or_left (has h s) (has h u) a.0) i && left hs a.1 i
 
     right : (hs : List ℕ) → has_all hs u ≡ true → has_all hs (s ++ u) ≡ true
     right [] all = refl
-    right (h ∷ hs) all = let a = and_true (has h u) (has_all hs u) all in λ i. (has_append h s u ∙ or_right (has h s) (has h u) a.0) i && right hs a.1 i
+    right (h ∷ hs) all = let a = and_parts (has h u) (has_all hs u) all in λ i. (has_append h s u ∙ or_right (has h s) (has h u) a.0) i && right hs a.1 i
 
 pub takes_in : {L : Type 0} (t : ℕ) (a : ClaimsValue) (b : CellsValue) (all new : Gathered) (w : WorkerValue L) → IsGathered t a b all → IsEnded b.subject.field.dims t a b w
     → new.claims ≡ record all.claims { share = all.claims.share + w.claims.share; drawn = all.claims.drawn ++ w.claims.drawn; done = all.claims.done || w.claims.done }

@@ -9,12 +9,12 @@ use Rattle.std.specs.Prelude.{All}
 use Rattle.std.proofs.lemmas.List.{map-append}
 use Rattle.std.proofs.lemmas.List.Concat.{flat_map-append}
 use Rattle.std.proofs.lemmas.List.Sums.{sum_by-append, sum_by_push, sum_by-cons}
+use Rattle.std.proofs.lemmas.Bool.{and_parts, both_ways, or_cases}
 use Rattle.definitions.specs.declared.Dims.{Dims}
 use Rattle.definitions.specs.Lattice.{layers, vertices}
 use Rattle.definitions.specs.Layout.{layer_len, reach, reach_from, reach_to, slab_from, slab_to, slabs}
 use Rattle.definitions.specs.States.{states}
 use Rattle.list_words.specs.Words.{has, has_all, times}
-use Rattle.list_words.proofs.Tests.{and_true, clash, either_true}
 use Rattle.list_words.proofs.Lists.{has_pushed}
 use Rattle.slab_claims.specs.Seats.{ClaimsValue, SeatValue}
 use Rattle.layer_cells.specs.Seats.{CellsValue, CellSeatValue, Subject}
@@ -31,7 +31,7 @@ use Rattle.survey_workers.specs.Going.{layers_of, KnowsReaches, IsReady, IsGoing
 nothing_made : {L : Type 0} (d : Dims) (w : WorkerValue L) → w.cells.made ≡ [] → MadeOnce (layers d) w.cells
 nothing_made d w none = record {
   once = λ x. let z : times x w.cells.made ≡ 0 = ap (times x) none in omega arith;
-  known = λ x e. absurd (clash false (sym (ap (has x) none) ∙ e) refl);
+  known = λ x e. absurd (both_ways false refl (sym (ap (has x) none) ∙ e));
 }
 
 pub begins : {L : Type 0} (count : L → ℕ) (d : Dims) (t : ℕ) (a : ClaimsValue) (b : CellsValue) (v : WorkerValue L) → IsReady d a b v → IsGoing count d t a b v v v.claims.drawn
@@ -39,7 +39,7 @@ begins count d t a b v r = record {
   of = r.of;
   cells_of = r.cells_of;
   share = refl;
-  knows = λ j e. absurd (clash false (sym (ap (has j) r.none_drawn) ∙ e) refl);
+  knows = λ j e. absurd (both_ways false refl (sym (ap (has j) r.none_drawn) ∙ e));
   counts = r.no_counts ∙ sym (ap (λ (l : List ℕ). counts_of_layers b.subject (layers_of d t l)) r.none_drawn);
   few = let z : length v.cells.made ≡ 0 = ap length r.none_made in omega arith;
   once = nothing_made d v r.none_made;
@@ -71,7 +71,7 @@ knows_more d t n slabs old new grown knows s j e = ⊎_elim
   where
     all_kept : (hs : List ℕ) → has_all hs old.seen ≡ true → has_all hs new.seen ≡ true
     all_kept [] all = refl
-    all_kept (h ∷ hs) all = let p = and_true (has h old.seen) (has_all hs old.seen) all in λ i. s.kept h p.0 i && all_kept hs p.1 i
+    all_kept (h ∷ hs) all = let p = and_parts (has h old.seen) (has_all hs old.seen) all in λ i. s.kept h p.0 i && all_kept hs p.1 i
 
 -- the layers that a survey makes are at most those of the reach
 few_grown : (a n : ℕ) (old new : CellSeatValue) (grown : List ℕ) → Surveys (range_with_len a n) old new grown → length grown ≤ n
@@ -132,11 +132,11 @@ ends count d t a b v w g done = record { of = g.of; cells_of = g.cells_of; done 
 
 -- what is above all is above each
 pub above_each : (n x : ℕ) (xs : List ℕ) → All (λ y. y < n) xs → has x xs ≡ true → x < n
-above_each n x [] all e = absurd (clash false e refl)
+above_each n x [] all e = absurd (both_ways false refl e)
 above_each n x (y ∷ ys) all e = ⊎_elim
     (λ (s : (y == x) ≡ true). let same : y ≡ x = grind (arith, nat_tests) in let l = All-head (λ z. z < n) y ys all in omega arith)
     (λ (o : has x ys ≡ true). above_each n x ys (All-tail (λ z. z < n) y ys all) o)
-    (either_true (y == x) (has x ys) e)
+    (or_cases (y == x) (has x ys) e)
 
 -- the next number is above the last one
 pub follows : (next n : ℕ) (slabs : List ℕ) → (0 < next → has (next - 1) slabs ≡ true) → All (λ y. y < n) slabs → next ≤ n

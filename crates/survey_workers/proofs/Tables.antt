@@ -4,13 +4,13 @@ use Rattle.std.specs.List.{range_with_len}
 use Rattle.std.proofs.lemmas.Bool.Decides.{nat_tests}
 use Rattle.std.proofs.lemmas.List.{get_or-set_same, get_or-set_other, length-set}
 use Rattle.std.proofs.lemmas.List.Concat.{flat_map-append}
+use Rattle.std.proofs.lemmas.Bool.{both_ways, or_cases, or_left, or_right, cases_eq}
 use Rattle.definitions.specs.declared.Dims.{Dims}
 use Rattle.definitions.specs.Lattice.{layers}
 use Rattle.definitions.specs.Layout.{slabs}
 use Rattle.definitions.specs.States.{states}
-use Rattle.list_words.specs.Words.{has, EachOnce, once_below}
-use Rattle.list_words.proofs.Tests.{clash, either_true, or_left, or_right, true_or_false}
-use Rattle.list_words.proofs.Lists.{has_append, same_or_other, times_has}
+use Rattle.list_words.specs.Words.{has, EachOnce}
+use Rattle.list_words.proofs.Lists.{has_append, each_stands}
 use Rattle.layer_cells.specs.Seats.{Subject}
 use Rattle.vertex_numbers.specs.declared.LayerCount.{LayerCount}
 use Rattle.vertex_numbers.specs.Counts.{count_of_layer, layer_counts}
@@ -28,9 +28,6 @@ filled_push table [] c = refl
 filled_push table (x ∷ xs) c = filled_push (set table x.h x) xs c
 
 -- what the table has of a layer stays right as right counts are put in, and is right once the layer's are
-count_at : Subject → ℕ → LayerCount
-count_at a h = count_of_layer a.field.dims (states a.field a.shares) h
-
 set_right : (a : Subject) (table : List LayerCount) (g h : ℕ) → (g ≡ h) ⊎ IsRight a table h → IsRight a (set table g (count_of_layer a.field.dims (states a.field a.shares) g)) h
 set_right a table g h which e lt =
     let w : LayerCount = count_of_layer a.field.dims (states a.field a.shares) g in
@@ -40,7 +37,7 @@ set_right a table g h which e lt =
     (λ (right : IsRight a table h). ⊎_elim
     (λ (s : h ≡ g). subst (λ (k : ℕ). get_or (set table g w) k e ≡ count_of_layer a.field.dims (states a.field a.shares) k) (sym s) (get_or-set_same table g w e (omega arith)))
     (λ (o : h ≢ g). get_or-set_other table g h w e o ∙ right e (omega arith))
-    (same_or_other h g))
+    (cases_eq h g))
     which
 
 pub stays_right : (a : Subject) (hs : List ℕ) (table : List LayerCount) (h : ℕ) → IsRight a table h → IsRight a (with_counts table (counts_of_layers a hs)) h
@@ -48,32 +45,26 @@ stays_right a [] table h r = r
 stays_right a (g ∷ gs) table h r = stays_right a gs (set table g (count_of_layer a.field.dims (states a.field a.shares) g)) h (set_right a table g h (inr r))
 
 pub gets_right : (a : Subject) (hs : List ℕ) (table : List LayerCount) → AreRight a (with_counts table (counts_of_layers a hs)) hs
-gets_right a [] table h e = absurd (clash false e refl)
+gets_right a [] table h e = absurd (both_ways false refl e)
 gets_right a (g ∷ gs) table h e = ⊎_elim
     (λ (s : (g == h) ≡ true). stays_right a gs (set table g (count_of_layer a.field.dims (states a.field a.shares) g)) h (set_right a table g h (inl (let same : g ≡ h = grind (arith, nat_tests) in same))))
     (λ (o : has h gs ≡ true). gets_right a gs (set table g (count_of_layer a.field.dims (states a.field a.shares) g)) h o)
-    (either_true (g == h) (has h gs) e)
+    (or_cases (g == h) (has h gs) e)
 
 -- the counts of more slabs are put in
 pub fills : (a : Subject) (d : Dims) (t : ℕ) (before drawn : List ℕ) (table : List LayerCount) → AreRight a table (layers_of d t before) → AreRight a (with_counts table (counts_of_layers a (layers_of d t drawn))) (layers_of d t (before ++ drawn))
 fills a d t before drawn table right h e = ⊎_elim
     (λ (b : has h (layers_of d t before) ≡ true). stays_right a (layers_of d t drawn) table h (right h b))
     (λ (n : has h (layers_of d t drawn) ≡ true). gets_right a (layers_of d t drawn) table h n)
-    (either_true (has h (layers_of d t before)) (has h (layers_of d t drawn)) (sym (has_append h (layers_of d t before) (layers_of d t drawn)) ∙ ap (has h) (sym (flat_map-append (slab_layers d t) before drawn)) ∙ e))
+    (or_cases (has h (layers_of d t before)) (has h (layers_of d t drawn)) (sym (has_append h (layers_of d t before) (layers_of d t drawn)) ∙ ap (has h) (sym (flat_map-append (slab_layers d t) before drawn)) ∙ e))
 
 -- a layer of one of these slabs is among their layers
 pub in_layers : (d : Dims) (t j h : ℕ) (drawn : List ℕ) → has j drawn ≡ true → has h (slab_layers d t j) ≡ true → has h (layers_of d t drawn) ≡ true
-in_layers d t j h [] e k = absurd (clash false e refl)
+in_layers d t j h [] e k = absurd (both_ways false refl e)
 in_layers d t j h (x ∷ xs) e k = has_append h (slab_layers d t x) (layers_of d t xs) ∙ ⊎_elim
     (λ (s : (x == j) ≡ true). or_left (has h (slab_layers d t x)) (has h (layers_of d t xs)) (let same : x ≡ j = grind (arith, nat_tests) in ap (λ (i : ℕ). has h (slab_layers d t i)) same ∙ k))
     (λ (o : has j xs ≡ true). or_right (has h (slab_layers d t x)) (has h (layers_of d t xs)) (in_layers d t j h xs o k))
-    (either_true (x == j) (has j xs) e)
-
-pub each_drawn : (n x : ℕ) (xs : List ℕ) → EachOnce n xs → x < n → has x xs ≡ true
-each_drawn n x xs once lt = ⊎_elim
-    (λ (t : has x xs ≡ true). t)
-    (λ (f : has x xs ≡ false). let z = times_has x xs f in let o = once x in let one : once_below x n ≡ 1 = grind (arith, nat_tests) in absurd (omega arith))
-    (true_or_false (has x xs))
+    (or_cases (x == j) (has j xs) e)
 
 -- where each slab is drawn, the table has all counts
 pub all_right : (a : Subject) (d : Dims) (t : ℕ) (drawn : List ℕ) (table : List LayerCount) → d ≡ a.field.dims → 1 ≤ t → EachOnce (slabs d t) drawn → length table ≡ layers d → AreRight a table (layers_of d t drawn) → table ≡ layer_counts a.field.dims (states a.field a.shares)
@@ -82,7 +73,7 @@ all_right a d t drawn table is some once len right =
     let l : length table ≡ layers a.field.dims = len ∙ ap layers is in
     filled f (layers a.field.dims) table l (λ h lt e.
     let s = slab_of d t h some (subst (λ (c : Dims). h < layers c) (sym is) lt) in
-    right h (in_layers d t (h / (2 * t)) h drawn (each_drawn (slabs d t) (h / (2 * t)) drawn once s.0) s.1) e (omega arith))
+    right h (in_layers d t (h / (2 * t)) h drawn (each_stands (slabs d t) (h / (2 * t)) drawn once s.0) s.1) e (omega arith))
   where
     filled : (f : ℕ → LayerCount) (n : ℕ) (table : List LayerCount) → length table ≡ n → ((h : ℕ) → h < n → (e : LayerCount) → get_or table h e ≡ f h) → table ≡ map f (range_with_len 0 n)
     filled f n table len each = from f table 0 n len (λ k lt e. each k lt e ∙ ap f (let z : k ≡ 0 + k = omega arith in z))

@@ -42,34 +42,7 @@ fn run_worker<G: Gate, L: Ledger>(
     }
 }
 
-/// Runs the workers, each in a thread of its own where one can be made.
-fn run_all<G: Gate + Sync, L: Ledger + Send, R: Threads + Sync>(
-    rt: &R,
-    field: &Field,
-    shares: Shares,
-    layout: &Layout,
-    claims: &Claims,
-    cells: &Cells,
-    gate: &G,
-    workers: Vec<Worker<L>>,
-) -> Vec<Worker<L>>
-    requires some { 0 < length workers.items }
-    requires layout { IsLayout layout.now.dims layout.now.slab }
-    requires sizes { layout.now.dims ≡ field.now.dims }
-    requires cells { cells.now.subject ≡ record { field = field.now; shares = shares } }
-    requires slabs { claims.now.slabs ≡ slabs field.now.dims layout.now.slab }
-    requires ready { All (λ w. IsReady field.now.dims claims.now cells.now w × (L.count w.ledger + length (vertices field.now.dims) < 2 ^ 64)) workers.items }
-    ensures len { length result.items ≡ length workers.items }
-    ensures went { (i : ℕ) (d : _) → i < length workers.items → IsGoing L.count field.now.dims layout.now.slab claims.now cells.now (slice_index_or workers.items i d) (slice_index_or result.items i d) (slice_index_or result.items i d).claims.drawn × ((slice_index_or result.items i d).claims.done ≡ true) }
-{
-    run_each(
-        rt,
-        workers,
-        &|_, worker| run_worker(field, shares, layout, claims, cells, gate, worker),
-    )
-}
-
-/// Runs the workers to their end.
+/// Runs the workers to their end, each in a thread of its own where one can be made.
 pub fn run_to_end<G: Gate + Sync, L: Ledger + Send, R: Threads + Sync>(
     rt: &R,
     field: &Field,
@@ -91,5 +64,9 @@ pub fn run_to_end<G: Gate + Sync, L: Ledger + Send, R: Threads + Sync>(
     ensures len { length result.items ≡ length workers.items }
     ensures ledgers { (i : ℕ) (d : _) → i < length workers.items → L.count (slice_index_or result.items i d).ledger ≡ L.count (slice_index_or workers.items i d).ledger + vertices_in field.now.dims (slice_index_or result.items i d).cells.made }
 {
-    run_all(rt, field, shares, layout, claims, cells, gate, workers)
+    run_each(
+        rt,
+        workers,
+        &|_, worker| run_worker(field, shares, layout, claims, cells, gate, worker),
+    )
 }

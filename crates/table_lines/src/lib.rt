@@ -21,6 +21,17 @@ pub fn cut(text: &[u8], mark: u8) -> (&[u8], &[u8])
     (text, b"")
 }
 
+/// The next field of a row whose fields bars part, without the blanks around it, and what stands behind it.
+///
+/// ```
+/// let (name, rest) = field(b"node | 2");
+/// assert_eq!(name, b"node");
+/// ```
+pub fn field(row: &[u8]) -> (&[u8], &[u8]) {
+    let (field, rest) = cut(row, b'|');
+    (field.trim_ascii(), rest)
+}
+
 /// The number that some decimal digits are.
 pub fn number(text: &[u8]) -> u32 {
     let mut number = 0u32;

@@ -6,73 +6,36 @@ use bcc_lattice::vertex_count;
 use command_line::Plan;
 use samples::Field;
 use slab_work::{Survey, emit_nodes, emit_tets, source_of, survey};
-use small_images::{one_sample, phantom_field};
+use small_images::{
+    ONE_SAMPLE_ELE_FILE, ONE_SAMPLE_ELE_FILE_FROM_ONE, ONE_SAMPLE_NODE_FILE,
+    ONE_SAMPLE_NODE_FILE_FROM_ONE, one_sample, phantom_field,
+};
 use snap_rule::Shares;
 use st_base::{Frame, OpenGate, Tally};
 use std::alloc::Global;
 use std::test::*;
 use std::thread::Threads;
+use table_lines::cut;
 
-// The lines of the nodes of one sample above the level, slab by slab of two layers.
-const FIRST_NODES: &str = "0 0.0000000000000 0.0000000000000 -0.5000000000000 1
-1 -0.2857666015625 -0.2857666015625 -0.2857666015625 1
-2 0.2857666015625 -0.2857666015625 -0.2857666015625 1
-3 -0.2857666015625 0.2857666015625 -0.2857666015625 1
-4 0.2857666015625 0.2857666015625 -0.2857666015625 1
-";
-
-const OTHER_NODES: &str = "5 0.0000000000000 -0.5000000000000 0.0000000000000 1
-6 -0.5000000000000 0.0000000000000 0.0000000000000 1
-7 0.0000000000000 0.0000000000000 0.0000000000000 0
-8 0.5000000000000 0.0000000000000 0.0000000000000 1
-9 0.0000000000000 0.5000000000000 0.0000000000000 1
-10 -0.2857666015625 -0.2857666015625 0.2857666015625 1
-11 0.2857666015625 -0.2857666015625 0.2857666015625 1
-12 -0.2857666015625 0.2857666015625 0.2857666015625 1
-13 0.2857666015625 0.2857666015625 0.2857666015625 1
-14 0.0000000000000 0.0000000000000 0.5000000000000 1
-";
-
-// Those of its tetrahedra.
-const FIRST_TETS: &str = "0 0 1 2 7
-1 0 1 7 3
-2 0 2 4 7
-3 0 3 7 4
-4 1 2 7 5
-5 1 3 6 7
-6 1 5 7 10
-7 1 6 10 7
-8 2 4 7 8
-9 2 5 11 7
-10 2 7 11 8
-11 3 4 9 7
-12 3 6 7 12
-13 3 7 9 12
-14 4 7 8 13
-15 4 7 13 9
-";
-
-const OTHER_TETS: &str = "16 5 7 10 11
-17 6 7 12 10
-18 7 8 13 11
-19 7 9 12 13
-20 7 10 11 14
-21 7 10 14 12
-22 7 11 13 14
-23 7 12 14 13
-";
-
-// Those with which the texts begin where nodes and tetrahedra are numbered from 1.
-const FROM_ONE_NODES: &str = "1 0.0000000000000 0.0000000000000 -0.5000000000000 1
-2 -0.2857666015625 -0.2857666015625 -0.2857666015625 1
-";
-
-const FROM_ONE_TETS: &str = "1 1 2 3 8
-2 1 2 8 4
-";
+// How many lines of tetrahedra the first slab of two layers of one sample has.
+const FIRST_TETS: usize = 16;
 
 // Numbers of workers, and of double layers of a slab.
 const PLANS: [(u32, u32); 6] = [(1, 1), (2, 1), (3, 1), (64, 1), (2, 3), (3, 64)];
+
+// What stands behind the first line of a file.
+fn behind_line(file: &[u8]) -> &[u8] {
+    cut(file, b'\n').1
+}
+
+// So many lines, and what stands behind them.
+fn after_lines(text: &[u8], count: usize) -> (&[u8], &[u8]) {
+    let mut rest = text;
+    for _ in 0..count {
+        rest = behind_line(rest);
+    }
+    text.split_at(text.len().saturating_sub(rest.len()))
+}
 
 fn plan_of(workers: u32, slab: u32) -> Option<Plan>
     ensures { IfSome result IsPlan }
@@ -173,12 +136,8 @@ fn one_sample_has_these_lines_whoever_makes_them(rt: HostRuntime) {
         let Some((nodes, tets)) = texts_of(&rt, alloc, &field, plan, 0) else {
             panic!(rt; "no memory")
         };
-        let (first, other) = nodes.split_at(FIRST_NODES.len().min(nodes.len()));
-        assert_eq!(rt; first, FIRST_NODES.as_bytes());
-        assert_eq!(rt; other, OTHER_NODES.as_bytes());
-        let (first, other) = tets.split_at(FIRST_TETS.len().min(tets.len()));
-        assert_eq!(rt; first, FIRST_TETS.as_bytes());
-        assert_eq!(rt; other, OTHER_TETS.as_bytes());
+        assert_eq!(rt; nodes.as_slice(), behind_line(ONE_SAMPLE_NODE_FILE));
+        assert_eq!(rt; tets.as_slice(), behind_line(ONE_SAMPLE_ELE_FILE));
     }
 }
 
@@ -191,10 +150,11 @@ fn lines_are_numbered_from_1(rt: HostRuntime) {
     let Some((nodes, tets)) = texts_of(&rt, alloc, &field, plan, 1) else {
         panic!(rt; "no memory")
     };
-    let (first, _) = nodes.split_at(FROM_ONE_NODES.len().min(nodes.len()));
-    assert_eq!(rt; first, FROM_ONE_NODES.as_bytes());
-    let (first, _) = tets.split_at(FROM_ONE_TETS.len().min(tets.len()));
-    assert_eq!(rt; first, FROM_ONE_TETS.as_bytes());
+    assert_eq!(rt;
+        nodes.as_slice(),
+        behind_line(ONE_SAMPLE_NODE_FILE_FROM_ONE)
+    );
+    assert_eq!(rt; tets.as_slice(), behind_line(ONE_SAMPLE_ELE_FILE_FROM_ONE));
 }
 
 #[test]
@@ -241,8 +201,9 @@ fn a_round_of_one_worker(rt: HostRuntime) {
         panic!(rt; "three parts")
     };
     assert_eq!(rt; [one.slab, two.slab, three.slab], [0, 1, 2]);
-    assert_eq!(rt; one.text.as_slice(), FIRST_TETS.as_bytes());
-    assert_eq!(rt; two.text.as_slice(), OTHER_TETS.as_bytes());
+    let (first, other) = after_lines(behind_line(ONE_SAMPLE_ELE_FILE), FIRST_TETS);
+    assert_eq!(rt; one.text.as_slice(), first);
+    assert_eq!(rt; two.text.as_slice(), other);
     assert!(rt; three.text.is_empty() && three.extremes.is_none());
     let Some(extremes) = one.extremes else {
         panic!(rt; "there are tetrahedra")

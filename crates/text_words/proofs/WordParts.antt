@@ -1,7 +1,7 @@
 -- The words of a text, parted by blanks.
 use Rattle.std.proofs.Common.{◌≡◌, ℕ, ◌+◌, ◌-◌, ◌<◌, ◌≤◌, ◌==◌, suc, List, [], ◌∷◌, length, take, drop, filter, Bool, true, false, not, nat_lt, refl, ap, sym, ◌∙◌, subst, arith, get_or, length-drop, drop-cons, add-one}
 use Rattle.std.proofs.lemmas.Grind.{common_steps}
-use Rattle.std.proofs.lemmas.Bool.{ltb-true}
+use Rattle.std.proofs.lemmas.Bool.{ltb-true, ltb-false}
 use Rattle.std.proofs.lemmas.List.{take_all, length-take}
 use Rattle.std.proofs.lemmas.List.Sums.{prefix_len_stops, prefix_len-le-length, fails_before_first, passes_at_first}
 use Rattle.std.proofs.lemmas.List.Splits.{slice_split_none, slice_split_first, slice_split-cons_yes}
@@ -9,9 +9,6 @@ use Rattle.std.proofs.Math.ListN.{drop_of_length-le}
 use Rattle.std.specs.List.{slice_split, prefix_len, position_or_len}
 use Rattle.formats.specs.Counts.{is_blank}
 use Rattle.formats.specs.Heads.{words_of}
-
-pub not_less : (a b : ℕ) → nat_lt a b ≡ false → b ≤ a
-not_less a b h = grind (arith, common_steps)
 
 pub zero_is : (n : ℕ) → (n == 0) ≡ true → n ≡ 0
 zero_is n h = grind (arith, common_steps)
@@ -64,7 +61,7 @@ words_first text at at_is some = by_end (nat_lt at (length text)) refl
         ∙ filter_word (take at text) (slice_split is_blank (drop (at + 1) text)) word
         ∙ ap (λ (ws : List (List ℕ)). take at text ∷ ws) (sym (ap words_of rest ∙ words_behind (get_or text at 0) (drop (at + 1) text) blank))
     by_end false t =
-        let all : length text ≤ at = not_less at (length text) t in
+        let all : length text ≤ at = ltb-false at (length text) t in
         let none : slice_split is_blank text ≡ text ∷ [] = slice_split_none is_blank text (λ k d lt. fails_before_first is_blank text k d (omega arith)) in
         let word : 0 < length text = omega (arith, within) in
         let whole : take at text ≡ text = take_all at text all in

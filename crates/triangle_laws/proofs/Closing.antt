@@ -3,10 +3,9 @@ use Rattle.std.specs.Prelude.{ℕ, ◌+◌, ◌*◌, Bool, true, false, ◌&&◌
 use Rattle.std.proofs.Common.{◌≡◌, refl, sym, ap, ◌∙◌, arith, cond}
 use Rattle.std.specs.List.{AllByRecursion}
 use Rattle.std.proofs.Common.{inl, inr, ◌⊎◌}
-use Rattle.std.proofs.lemmas.Bool.{eqb-true}
+use Rattle.std.proofs.lemmas.Bool.{eqb-true, and_parts, or_cases}
 use Rattle.std.proofs.lemmas.Bool.Decides.{nat_tests}
 use Rattle.definitions.specs.Soundness.{triangles_of, all_triangles, tets_at_triangle, boundary, directed_edges, edge_count}
-use Rattle.lattice_laws.proofs.Booleans.{both_true, either_true}
 use Rattle.lattice_laws.proofs.Sublists.{all_from_place}
 use Rattle.triangle_laws.specs.Boundary.{turned, IsPaired}
 use Rattle.triangle_laws.specs.Laws.{PairedBoundariesClose}
@@ -73,17 +72,17 @@ edge_count-is : (a b : ℕ) (ts : List (List ℕ)) → edge_count ts a b ≡ tot
 edge_count-is a b ts = total-is (λ (e : ℕ × ℕ). cond (e.0 == a && e.1 == b) 1 0) (flat_map directed_edges ts) ∙ total-flat_map (λ (e : ℕ × ℕ). cond (e.0 == a && e.1 == b) 1 0) directed_edges ts ∙ total-same _ _ (edges_of_triangle-are a b) ts
 
 turned_edges : (a b : ℕ) (t u : List ℕ) → turned t u ≡ true → edges_of_triangle a b t ≡ edges_of_triangle b a u
-turned_edges a b (p ∷ q ∷ r ∷ []) (x ∷ y ∷ z ∷ []) h = go (either_true (x == p && (y == r && z == q)) _ h)
+turned_edges a b (p ∷ q ∷ r ∷ []) (x ∷ y ∷ z ∷ []) h = go (or_cases (x == p && (y == r && z == q)) _ h)
   where
     go3 : (x' y' z' : ℕ) → ((x == x') && ((y == y') && (z == z'))) ≡ true → (x ≡ x') × (y ≡ y') × (z ≡ z')
-    go3 x' y' z' e = let f = both_true (x == x') _ e in let g = both_true (y == y') _ f.1 in (eqb-true x x' f.0, eqb-true y y' g.0, eqb-true z z' g.1)
+    go3 x' y' z' e = let f = and_parts (x == x') _ e in let g = and_parts (y == y') _ f.1 in (eqb-true x x' f.0, eqb-true y y' g.0, eqb-true z z' g.1)
 
     is_same : (x' y' z' : ℕ) → (x ≡ x') × (y ≡ y') × (z ≡ z') → edges_of_triangle b a (x ∷ y ∷ z ∷ []) ≡ edge_bit b a x' y' + (edge_bit b a y' z' + edge_bit b a z' x')
     is_same x' y' z' e = λ i. edge_bit b a (e.0 i) (e.1 i) + (edge_bit b a (e.1 i) (e.2 i) + edge_bit b a (e.2 i) (e.0 i))
 
     go : ((x == p && (y == r && z == q)) ≡ true) ⊎ (((x == r && (y == q && z == p)) || (x == q && (y == p && z == r))) ≡ true) → edges_of_triangle a b (p ∷ q ∷ r ∷ []) ≡ edges_of_triangle b a (x ∷ y ∷ z ∷ [])
     go (inl e) = let s = is_same p r q (go3 p r q e) in omega (arith, edge_flip a b p q, edge_flip a b q r, edge_flip a b r p)
-    go (inr e) = go2 (either_true (x == r && (y == q && z == p)) _ e)
+    go (inr e) = go2 (or_cases (x == r && (y == q && z == p)) _ e)
       where
         go2 : ((x == r && (y == q && z == p)) ≡ true) ⊎ ((x == q && (y == p && z == r)) ≡ true) → edges_of_triangle a b (p ∷ q ∷ r ∷ []) ≡ edges_of_triangle b a (x ∷ y ∷ z ∷ [])
         go2 (inl e) = let s = is_same r q p (go3 r q p e) in omega (arith, edge_flip a b p q, edge_flip a b q r, edge_flip a b r p)

@@ -3,11 +3,10 @@ use Rattle.std.proofs.Common.{◌≡◌, ◌⊎◌, inl, inr, ℕ, ◌+◌, ◌<
 use Rattle.std.specs.Prelude.{pos}
 use Rattle.std.specs.List.{list_all}
 use lib.Signed.{◌<ℤ◌}
-use Rattle.std.proofs.lemmas.Bool.{eqb-true}
+use Rattle.std.proofs.lemmas.Bool.{eqb-true, and_parts, or_cases, and_from, both_ways}
 use Rattle.definitions.specs.declared.Place.{Place}
 use Rattle.definitions.specs.Vectors.{place_at}
 use Rattle.definitions.specs.Soundness.{IsPositive, Meet, is_in, same_nodes, triangles_of, all_triangles}
-use Rattle.lattice_laws.proofs.Booleans.{both_true, either_true, and_true, not_both}
 use Rattle.lattice_laws.proofs.Sublists.{all_from_place, pairs_from_place}
 use Rattle.lattice_laws.proofs.Volumes.{det_by_rows}
 use Rattle.triangle_laws.specs.Boundary.{turned}
@@ -67,7 +66,7 @@ module _ (places : List Place) (tet : List ℕ) (a b c d : ℕ) (o : IsOrder pla
 -- two tetrahedra with four nodes in common
 pub nodes_agree : (places : List Place) (s t : List ℕ) (a b c d : ℕ) → IsOrder places s a b c d → IsOrder places t a b c d → same_nodes s t ≡ true
 nodes_agree places s t a b c d o q =
-    and_true _ _
+    and_from _ _
     (all_of_four places s a b c d o (is_in t) (has_a places t a b c d q) (has_b places t a b c d q) (has_c places t a b c d q) (has_d places t a b c d q))
     (all_of_four places t a b c d q (is_in s) (has_a places s a b c d o) (has_b places s a b c d o) (has_c places s a b c d o) (has_d places s a b c d o))
 
@@ -75,18 +74,18 @@ nodes_agree places s t a b c d o q =
 
 -- the order of the nodes that begins with the triangle turned
 turned_order : (places : List Place) (tet : List ℕ) (a b c x y z d : ℕ) → turned (a ∷ b ∷ c ∷ []) (x ∷ y ∷ z ∷ []) ≡ true → IsOrder places tet x z y d → IsOrder places tet a b c d
-turned_order places tet a b c x y z d h o = go (either_true (x == a && (y == c && z == b)) _ h)
+turned_order places tet a b c x y z d h o = go (or_cases (x == a && (y == c && z == b)) _ h)
   where
     three : (p q r : ℕ) → ((x == p) && ((y == q) && (z == r))) ≡ true → IsOrder places tet p r q d
     three p q r e =
-        let f = both_true (x == p) _ e in
-        let g = both_true (y == q) _ f.1 in
+        let f = and_parts (x == p) _ e in
+        let g = and_parts (y == q) _ f.1 in
         subst (λ n. IsOrder places tet n r q d) (eqb-true x p f.0)
         (subst (λ n. IsOrder places tet x n q d) (eqb-true z r g.1) (subst (λ n. IsOrder places tet x z n d) (eqb-true y q g.0) o))
 
     go : ((x == a && (y == c && z == b)) ≡ true) ⊎ (((x == c && (y == b && z == a)) || (x == b && (y == a && z == c))) ≡ true) → IsOrder places tet a b c d
     go (inl e) = three a c b e
-    go (inr e) = elim (either_true (x == c && (y == b && z == a)) _ e) [
+    go (inr e) = elim (or_cases (x == c && (y == b && z == a)) _ e) [
       | inl f ↦ first_turned places tet c a b d (three c b a f)
       | inr f ↦ first_turned places tet c a b d (first_turned places tet b c a d (three b a c f))
     ]
@@ -166,7 +165,7 @@ module _ (places : List Place) (a b c : ℕ) where
       let x = found_order s (as_four places s ls ps) hs in
       let y = found_order t (as_four places t lt pt) ht in
       let e = same_last places s t a b c x.0 y.0 x.1 y.1 m ls lt in
-      not_both (same_nodes s t) (nodes_agree places s t a b c y.0 (subst (λ n. IsOrder places s a b c n) e x.1) y.1) different
+      both_ways (same_nodes s t) different (nodes_agree places s t a b c y.0 (subst (λ n. IsOrder places s a b c n) e x.1) y.1)
 
 -- In all tetrahedra together a triangle with a direction stands at most once.
 pub at_most_one_turned : (places : List Place) (tets : List (List ℕ)) → AreConforming places tets → (a b c : ℕ) → hits (turned (a ∷ b ∷ c ∷ [])) (all_triangles tets) ≤ 1

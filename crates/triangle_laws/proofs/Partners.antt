@@ -1,10 +1,10 @@
 -- Each triangle is in one tetrahedron in its own direction, and in at most one other, turned.
 use Rattle.std.proofs.Common.{◌≡◌, ◌≢◌, ℕ, ◌+◌, ◌<◌, ◌≤◌, true, ◌==◌, cond, List, [], ◌∷◌, get_or, sym, ap, ◌∙◌, subst, inl, inr, arith}
 use Rattle.std.proofs.lemmas.Bool.Decides.{nat_tests}
+use Rattle.std.proofs.lemmas.Bool.{and_from, or_left}
 use Rattle.definitions.specs.declared.Place.{Place}
 use Rattle.definitions.specs.Soundness.{same_nodes, triangles_of, all_triangles, tets_at_triangle}
 use Rattle.lattice_laws.specs.Ascending.{Has}
-use Rattle.lattice_laws.proofs.Booleans.{and_true, or_left}
 use Rattle.lattice_laws.proofs.Members.{from_flat_map, place_of, all_from_members}
 use Rattle.lattice_laws.proofs.Sublists.{has_at}
 use Rattle.triangle_laws.specs.Boundary.{turned, IsPaired}
@@ -61,7 +61,7 @@ module _ (places : List Place) (tets : List (List ℕ)) (k : AreConforming place
     where
       go : (t : List ℕ) → IsTriangle t → Has t (all_triangles tets) → (tets_at_triangle tets t ≡ 1 + turned_count t) × (turned_count t ≤ 1)
       go _ (is_triangle a b c ab ac bc) h =
-          let own : turned (a ∷ c ∷ b ∷ []) (a ∷ b ∷ c ∷ []) ≡ true = or_left _ _ (and_true (a == a) _ (same_test a) (and_true (b == b) _ (same_test b) (same_test c))) in
+          let own : turned (a ∷ c ∷ b ∷ []) (a ∷ b ∷ c ∷ []) ≡ true = or_left _ _ (and_from (a == a) _ (same_test a) (and_from (b == b) _ (same_test b) (same_test c))) in
           let there = hits_of_member (turned (a ∷ c ∷ b ∷ [])) (a ∷ b ∷ c ∷ []) (all_triangles tets) h own in
           let once = at_most_one_turned places tets k a c b in
           let twice = at_most_one_turned places tets k a b c in

@@ -1,8 +1,8 @@
 -- A triangle has the same nodes as another where it is that one turned, or that one in its own direction.
 use Rattle.std.proofs.Common.{◌≡◌, ◌≢◌, ℕ, ◌+◌, Bool, true, false, not, ◌&&◌, ◌||◌, ◌==◌, [], ◌∷◌, refl, sym, ap, ◌∙◌}
-use Rattle.std.proofs.lemmas.Bool.{eqb-true}
+use Rattle.std.proofs.lemmas.Bool.{eqb-true, and_from, and_parts}
 use Rattle.definitions.specs.Soundness.{same_nodes}
-use Rattle.lattice_laws.proofs.Booleans.{and_true, both_true, implied}
+use Rattle.lattice_laws.proofs.Booleans.{implied}
 use Rattle.triangle_laws.specs.Boundary.{turned}
 use Rattle.triangle_laws.proofs.Closing.{eqb-flip}
 use Rattle.triangle_laws.proofs.Sums.{bit}
@@ -13,8 +13,8 @@ abbrev either_way : (Bool → Bool) → Bool
 either_way p = p true && p false
 
 at_either : (p : Bool → Bool) → either_way p ≡ true → (b : Bool) → p b ≡ true
-at_either p h true = (both_true (p true) (p false) h).0
-at_either p h false = (both_true (p true) (p false) h).1
+at_either p h true = (and_parts (p true) (p false) h).0
+at_either p h false = (and_parts (p true) (p false) h).1
 
 -- three Booleans, of which at most one is true
 abbrev at_most_one : Bool → Bool → Bool → Bool
@@ -77,17 +77,17 @@ apart_from x y a h = go (x == a) (y == a) (eqb-true x a) (eqb-true y a)
     go false q f g = refl
 
 one_of : (x a b c : ℕ) → a ≢ b → a ≢ c → b ≢ c → at_most_one (x == a) (x == b) (x == c) ≡ true
-one_of x a b c ab ac bc = and_true _ _ (apart x a b ab) (and_true _ _ (apart x a c ac) (apart x b c bc))
+one_of x a b c ab ac bc = and_from _ _ (apart x a b ab) (and_from _ _ (apart x a c ac) (apart x b c bc))
 
 one_is : (x y z a : ℕ) → x ≢ y → x ≢ z → y ≢ z → at_most_one (x == a) (y == a) (z == a) ≡ true
-one_is x y z a xy xz yz = and_true _ _ (apart_from x y a xy) (and_true _ _ (apart_from x z a xz) (apart_from y z a yz))
+one_is x y z a xy xz yz = and_from _ _ (apart_from x y a xy) (and_from _ _ (apart_from x z a xz) (apart_from y z a yz))
 
 module _ (a b c x y z : ℕ) (ab : a ≢ b) (ac : a ≢ c) (bc : b ≢ c) (xy : x ≢ y) (xz : x ≢ z) (yz : y ≢ z) where
   is_matched : is_matching (x == a) (x == b) (x == c) (y == a) (y == b) (y == c) (z == a) (z == b) (z == c) ≡ true
   is_matched =
-      and_true _ _ (one_of x a b c ab ac bc)
-      (and_true _ _ (one_of y a b c ab ac bc)
-      (and_true _ _ (one_of z a b c ab ac bc) (and_true _ _ (one_is x y z a xy xz yz) (and_true _ _ (one_is x y z b xy xz yz) (one_is x y z c xy xz yz)))))
+      and_from _ _ (one_of x a b c ab ac bc)
+      (and_from _ _ (one_of y a b c ab ac bc)
+      (and_from _ _ (one_of z a b c ab ac bc) (and_from _ _ (one_is x y z a xy xz yz) (and_from _ _ (one_is x y z b xy xz yz) (one_is x y z c xy xz yz)))))
 
   as_bits : same_nodes (a ∷ b ∷ c ∷ []) (x ∷ y ∷ z ∷ []) ≡ same_bits (x == a) (x == b) (x == c) (y == a) (y == b) (y == c) (z == a) (z == b) (z == c)
   as_bits = λ i.

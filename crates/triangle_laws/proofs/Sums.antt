@@ -3,8 +3,8 @@ use Rattle.std.proofs.Common.{◌≡◌, ℕ, ◌+◌, ◌<◌, ◌≤◌, Bool,
 use Rattle.std.specs.Prelude.{filter, flat_map}
 use Rattle.std.specs.List.{sum_by, list_any, list_all, AllByRecursion}
 use Rattle.std.proofs.lemmas.List.Sums.{sum_by-cons}
+use Rattle.std.proofs.lemmas.Bool.{or_left, or_right, and_from}
 use Rattle.lattice_laws.specs.Ascending.{Ascends, Has}
-use Rattle.lattice_laws.proofs.Booleans.{or_left, or_right, and_true}
 
 -- a sum by recursion
 abbrev pub total : {X : Type 0} → (X → ℕ) → List X → ℕ
@@ -109,7 +109,7 @@ module _ {X : Type 0} (p : X → Bool) where
   all_from_misses (x ∷ xs) h = go (p x) refl h (all_from_misses xs)
     where
       go : (b : Bool) → p x ≡ b → cond b 0 1 + total (λ x. cond (p x) 0 1) xs ≡ 0 → (total (λ x. cond (p x) 0 1) xs ≡ 0 → list_all p xs ≡ true) → list_all p (x ∷ xs) ≡ true
-      go true e k f = and_true (p x) _ e (f (omega arith))
+      go true e k f = and_from (p x) _ e (f (omega arith))
       go false e k f = absurd (omega arith)
 
 module _ {X : Type 0} (f : X → ℕ) where

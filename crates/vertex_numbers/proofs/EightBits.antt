@@ -1,12 +1,11 @@
 -- Eight answers as bits: each bit, how many are set, and how many below one.
 use Rattle.std.proofs.Common.{◌≡◌, ℕ, zero, suc, ◌*◌, ◌%◌, ◌^◌, ◌<◌, ◌≤◌, Bool, true, false, ◌&&◌, ◌==◌, List, [], ◌∷◌, length, get_or, take, arith, refl}
 use Rattle.std.specs.Prelude.{count_ones, nat_lt, not}
-use Rattle.std.proofs.lemmas.Bool.{eqb-true}
+use Rattle.std.proofs.lemmas.Bool.{eqb-true, and_parts}
 use Rattle.std.proofs.lemmas.Bool.Decides.{nat_tests}
 use lib.Count.{ones, ones-le}
 use Rattle.std.proofs.Math.Nat.{mod-lt}
 use Rattle.lattice_laws.specs.FiniteTests.{below}
-use Rattle.lattice_laws.proofs.Booleans.{both_true}
 use Rattle.lattice_laws.proofs.FiniteTests.{below_at}
 use Rattle.vertex_numbers.specs.Bits.{bits, has_bit, trues}
 
@@ -19,8 +18,8 @@ each_of : (n : ℕ) (p : List Bool → Bool) → every n p ≡ true → (bs : Li
 each_of zero p h [] l = h
 each_of zero p h (b ∷ bs) l = absurd (omega arith)
 each_of (suc n) p h [] l = absurd (omega arith)
-each_of (suc n) p h (true ∷ bs) l = each_of n (λ bs. p (true ∷ bs)) (both_true (every n (λ bs. p (true ∷ bs))) (every n (λ bs. p (false ∷ bs))) h).0 bs (omega arith)
-each_of (suc n) p h (false ∷ bs) l = each_of n (λ bs. p (false ∷ bs)) (both_true (every n (λ bs. p (true ∷ bs))) (every n (λ bs. p (false ∷ bs))) h).1 bs (omega arith)
+each_of (suc n) p h (true ∷ bs) l = each_of n (λ bs. p (true ∷ bs)) (and_parts (every n (λ bs. p (true ∷ bs))) (every n (λ bs. p (false ∷ bs))) h).0 bs (omega arith)
+each_of (suc n) p h (false ∷ bs) l = each_of n (λ bs. p (false ∷ bs)) (and_parts (every n (λ bs. p (true ∷ bs))) (every n (λ bs. p (false ∷ bs))) h).1 bs (omega arith)
 
 abbrev same_bool : Bool → Bool → Bool
 same_bool true b = b
@@ -60,7 +59,7 @@ all_masks = refl
 -- the bits below one of eight are at most eight
 pub few_below : (n k : ℕ) → k < 8 → count_ones (n % (1 * 2 ^ k % 256)) ≤ 8
 few_below n k lt =
-    let s = both_true (nat_lt 0 (1 * 2 ^ k % 256)) (nat_lt (1 * 2 ^ k % 256) 256) (below_at 8 (λ k. nat_lt 0 (1 * 2 ^ k % 256) && nat_lt (1 * 2 ^ k % 256) 256) all_masks k lt) in
+    let s = and_parts (nat_lt 0 (1 * 2 ^ k % 256)) (nat_lt (1 * 2 ^ k % 256) 256) (below_at 8 (λ k. nat_lt 0 (1 * 2 ^ k % 256) && nat_lt (1 * 2 ^ k % 256) 256) all_masks k lt) in
     let m = mod-lt n (from_test 0 (1 * 2 ^ k % 256) s.0) in
     let l = from_test (1 * 2 ^ k % 256) 256 s.1 in
     ones-le 8 (n % (1 * 2 ^ k % 256)) (below_256 _ _ m l)

@@ -7,7 +7,8 @@ use Rattle.definitions.specs.declared.Vertex.{Vertex}
 use Rattle.definitions.specs.Lattice.{IsDims, id, layer, layers, vertex, vertices, vertex_at}
 use Rattle.definitions.specs.Layout.{layer_len, layer_start}
 use Rattle.lattice_counts.specs.Counts.{below_layer, row_len, vertex_in_layer}
-use Rattle.lattice_counts.proofs.Ranks.{layer_length, layer_listed, layer_within, start, vertex_at_place, vertex_of_row}
+use Rattle.lattice_counts.proofs.Ranks.{layer_length, start}
+use Rattle.lattice_counts.proofs.Places.{layer_listed, layer_within, vertex_at_place, vertex_of_row}
 use Rattle.lattice_laws.proofs.Vertices.{id-vertex_at}
 use Rattle.vertex_numbers.proofs.NodesTold.{map_ranges}
 

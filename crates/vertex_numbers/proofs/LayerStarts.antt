@@ -4,6 +4,7 @@ use Rattle.std.specs.Prelude.{filter, sum_by}
 use Rattle.std.specs.List.{range_with_len}
 use Rattle.std.proofs.lemmas.List.Sums.{sum-map}
 use Rattle.std.proofs.lemmas.List.FromFn.{length-map-range_with_len, take-map-range_with_len}
+use Rattle.list_words.proofs.Sums.{sum_by-map}
 use Rattle.definitions.specs.declared.Dims.{Dims}
 use Rattle.definitions.specs.declared.State.{State}
 use Rattle.definitions.specs.Lattice.{layers, vertices}
@@ -14,7 +15,6 @@ use Rattle.lattice_counts.proofs.Ranks.{below_rises, start}
 use Rattle.node_laws.proofs.Layers.{counts_below}
 use Rattle.vertex_numbers.specs.Counts.{count_of_layer, layer_counts}
 use Rattle.vertex_numbers.specs.Numbering.{nodes_before}
-use Rattle.vertex_numbers.proofs.Sums.{sum_by-map}
 
 pub starts_rise : (d : Dims) (g h : ℕ) → g ≤ h → h ≤ layers d → layer_start d g ≤ layer_start d h
 starts_rise d g h le within =

@@ -3,6 +3,7 @@ use Rattle.std.proofs.Common.{◌≡◌, ℕ, ◌+◌, ◌*◌, ◌<◌, ◌≤�
 use Rattle.std.specs.Prelude.{filter, flat_map}
 use Rattle.std.specs.List.{range_with_len, sum_by}
 use Rattle.std.proofs.lemmas.List.Concat.{length-flat_map}
+use Rattle.list_words.proofs.Sums.{sum_by-map}
 use Rattle.definitions.specs.declared.Dims.{Dims}
 use Rattle.definitions.specs.declared.Vertex.{Vertex}
 use Rattle.definitions.specs.declared.State.{State}
@@ -20,7 +21,7 @@ use Rattle.vertex_numbers.specs.Sources.{Agrees, KnowsAround}
 use Rattle.vertex_numbers.proofs.LayerIds.{layer_by_ids, layer_ends, of_layer}
 use Rattle.vertex_numbers.proofs.NodesTold.{nodes_occur, pieces_same}
 use Rattle.vertex_numbers.proofs.PiecesTold.{pieces_counted}
-use Rattle.vertex_numbers.proofs.Sums.{keys_by_ids, length-filter_trues, sum_by-map, sums_alike}
+use Rattle.vertex_numbers.proofs.Sums.{keys_by_ids, length-filter_trues, sums_alike}
 
 module _ (d : Dims) (is : IsDims d) (h : ℕ) (lt : h < layers d) where
   -- the vertex with an id of the layer

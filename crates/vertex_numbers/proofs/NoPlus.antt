@@ -1,6 +1,7 @@
 -- Where no vertex around is Plus there are no pieces, and at a Minus vertex no nodes.
 use Rattle.std.proofs.Common.{◌≡◌, ◌+◌, ◌-◌, ◌*◌, ◌==◌, Bool, true, false, cond, not, ◌||◌, List, [], ◌∷◌, length, map, Option, Some, None, if◌then◌else◌, refl, sym, ap, ◌∙◌}
 use Rattle.std.specs.Prelude.{count_by}
+use Rattle.std.proofs.lemmas.Bool.{not-true, or_parts}
 use Rattle.definitions.specs.declared.Dims.{Dims}
 use Rattle.definitions.specs.declared.Vertex.{Vertex}
 use Rattle.definitions.specs.declared.State.{State}
@@ -8,14 +9,9 @@ use Rattle.definitions.specs.declared.Sign.{Sign}
 use Rattle.definitions.specs.declared.Sign.TheVariants.{Minus, Zero, Plus}
 use Rattle.definitions.specs.Stencils.{is_plus, is_minus}
 use Rattle.definitions.specs.States.{sign_of_state}
-use Rattle.lattice_laws.proofs.Booleans.{not_true}
 use Rattle.vertex_numbers.specs.Around.{crosses, has_plus_there, is_node, is_plus_there, nodes_of, pieces_with, pieces_up, signs_towards}
 use Rattle.vertex_numbers.specs.Bits.{bits}
 use Rattle.vertex_numbers.proofs.Seven.{seven_of}
-
-neither : (p q : Bool) → (p || q) ≡ false → (p ≡ false) × (q ≡ false)
-neither true q h = cc
-neither false q h = (refl, h)
 
 no_pieces_with : (s : Sign) (a b c : Option Sign) → is_plus s ≡ false → is_plus_there a ≡ false → is_plus_there b ≡ false → is_plus_there c ≡ false → pieces_with s a b c ≡ 0
 no_pieces_with s None b c e f g h = refl
@@ -35,25 +31,25 @@ module _ (a b c d e f g : Option Sign) (none : has_plus_there (a ∷ b ∷ c ∷
   p = is_plus_there
 
   first : (p a ≡ false) × ((p b || (p c || (p d || (p e || (p f || (p g || false)))))) ≡ false)
-  first = neither (p a) (p b || (p c || (p d || (p e || (p f || (p g || false)))))) none
+  first = or_parts (p a) (p b || (p c || (p d || (p e || (p f || (p g || false)))))) none
 
   second : (p b ≡ false) × ((p c || (p d || (p e || (p f || (p g || false))))) ≡ false)
-  second = neither (p b) (p c || (p d || (p e || (p f || (p g || false))))) first.1
+  second = or_parts (p b) (p c || (p d || (p e || (p f || (p g || false))))) first.1
 
   third : (p c ≡ false) × ((p d || (p e || (p f || (p g || false)))) ≡ false)
-  third = neither (p c) (p d || (p e || (p f || (p g || false)))) second.1
+  third = or_parts (p c) (p d || (p e || (p f || (p g || false)))) second.1
 
   fourth : (p d ≡ false) × ((p e || (p f || (p g || false))) ≡ false)
-  fourth = neither (p d) (p e || (p f || (p g || false))) third.1
+  fourth = or_parts (p d) (p e || (p f || (p g || false))) third.1
 
   fifth : (p e ≡ false) × ((p f || (p g || false)) ≡ false)
-  fifth = neither (p e) (p f || (p g || false)) fourth.1
+  fifth = or_parts (p e) (p f || (p g || false)) fourth.1
 
   sixth : (p f ≡ false) × ((p g || false) ≡ false)
-  sixth = neither (p f) (p g || false) fifth.1
+  sixth = or_parts (p f) (p g || false) fifth.1
 
   seventh : p g ≡ false
-  seventh = (neither (p g) false sixth.1).0
+  seventh = (or_parts (p g) false sixth.1).0
 
   six_without : (s : Sign) → is_plus s ≡ false → pieces_up s (a ∷ b ∷ c ∷ d ∷ e ∷ f ∷ g ∷ []) ≡ 0
   six_without s n =
@@ -66,7 +62,7 @@ module _ (a b c d e f g : Option Sign) (none : has_plus_there (a ∷ b ∷ c ∷
 
 -- nothing is Plus
 none_plus : (b c : Bool) → not (b || c) ≡ true → (b ≡ false) × (c ≡ false)
-none_plus b c h = neither b c (not_true (b || c) h)
+none_plus b c h = or_parts b c (not-true (b || c) h)
 
 -- without a Plus vertex there are no pieces
 pub no_pieces : (s : Sign) (up : List (Option Sign)) → length up ≡ 7 → not (is_plus s || has_plus_there up) ≡ true → pieces_up s up ≡ 0

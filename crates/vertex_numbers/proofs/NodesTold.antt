@@ -11,22 +11,15 @@ use Rattle.definitions.specs.declared.State.TheVariants as state
 use Rattle.definitions.specs.Lattice.{InDomain, id, neighbour, vertex_at}
 use Rattle.definitions.specs.Cuts.{are_opposite}
 use Rattle.definitions.specs.States.{sign_of_state}
-use Rattle.definitions.specs.Stencils.{is_plus}
 use Rattle.definitions.specs.Mesh.{all_pieces, occurs, ArePadded}
 use Rattle.lattice_laws.proofs.Vertices.{vertex_at-id}
 use Rattle.node_laws.specs.Used.{is_plus_state, plus_on, cut_on, vertex_used, used_at, told}
-use Rattle.node_laws.proofs.UsedNodes.{used_nodes_occur}
+use Rattle.node_laws.proofs.UsedNodes.{used_nodes_occur, plus_state}
 use Rattle.vertex_numbers.specs.Around.{sign_towards, signs_towards, is_plus_there, has_plus_there, crosses, is_node, node_towards, nodes_of, pieces_up, pieces_from}
 use Rattle.vertex_numbers.specs.Sources.{Agrees, KnowsAround}
 use Rattle.vertex_numbers.proofs.Neighbours.{near}
 
 -- ---- the words of the laws, by the signs around a vertex
-
-plus_state : (s : State) → is_plus_state s ≡ is_plus (sign_of_state s)
-plus_state state.Minus = refl
-plus_state state.Plus = refl
-plus_state (state.Zero edge k) = refl
-
 -- equal maps of two ranges
 pub map_ranges : {X : Type 0} (p q : ℕ → X) (a b n : ℕ) → ((k : ℕ) → k < n → p (a + k) ≡ q (b + k)) → map p (range_with_len a n) ≡ map q (range_with_len b n)
 map_ranges p q a b zero h = refl

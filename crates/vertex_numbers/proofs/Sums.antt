@@ -1,14 +1,16 @@
 -- Sums over ranges.
-use Rattle.std.proofs.Common.{◌≡◌, ℕ, zero, suc, ◌+◌, ◌*◌, ◌<◌, ◌≤◌, Bool, cond, List, [], ◌∷◌, length, map, arith, refl, sym, ap, ◌∙◌}
+use Rattle.std.proofs.Common.{◌≡◌, ℕ, zero, suc, ◌+◌, ◌*◌, ◌<◌, ◌≤◌, Bool, cond, List, length, map, arith, refl, sym, ap, ◌∙◌}
 use Rattle.std.specs.Prelude.{filter}
 use Rattle.std.specs.List.{range_with_len, sum_by}
 use Rattle.std.proofs.lemmas.List.Sums.{sum_by-append, sum_by-cons, length-filter}
-use Rattle.node_laws.proofs.Ranks.{range_split, count_split}
+use Rattle.list_words.proofs.Ranges.{range_add}
+use Rattle.list_words.proofs.Sums.{sum_by-map}
+use Rattle.node_laws.proofs.Ranks.{count_split}
 use Rattle.vertex_numbers.specs.Bits.{trues}
 
 -- two ranges that follow each other, and one more number at the end
 pub sum_join : (f : ℕ → ℕ) (a m n : ℕ) → sum_by f (range_with_len a (m + n)) ≡ sum_by f (range_with_len a m) + sum_by f (range_with_len (a + m) n)
-sum_join f a m n = ap (sum_by f) (range_split a m n) ∙ sum_by-append f (range_with_len a m) (range_with_len (a + m) n)
+sum_join f a m n = ap (sum_by f) (range_add a m n) ∙ sum_by-append f (range_with_len a m) (range_with_len (a + m) n)
 
 pub sum_next : (f : ℕ → ℕ) (a n : ℕ) → sum_by f (range_with_len a (n + 1)) ≡ sum_by f (range_with_len a n) + f (a + n)
 sum_next f a n = sum_join f a n 1 ∙ ap (λ m. sum_by f (range_with_len a n) + m) (zero_more (f (a + n)))
@@ -22,10 +24,6 @@ sums_alike f g a (suc n) h =
     sum_by-cons f a (range_with_len (a + 1) n)
     ∙ (λ i. h a (omega arith) (omega arith) i + sums_alike f g (a + 1) n (λ k lo hi. h k (omega arith) (omega arith)) i)
     ∙ sym (sum_by-cons g a (range_with_len (a + 1) n))
-
-pub sum_by-map : {X Y : Type 0} (q : Y → ℕ) (f : X → Y) (xs : List X) → sum_by q (map f xs) ≡ sum_by (λ x. q (f x)) xs
-sum_by-map q f [] = refl
-sum_by-map q f (x ∷ xs) = sum_by-cons q (f x) (map f xs) ∙ ap (λ n. q (f x) + n) (sum_by-map q f xs) ∙ sym (sum_by-cons (λ x. q (f x)) x xs)
 
 pub length-filter_trues : {X : Type 0} (p : X → Bool) (xs : List X) → length (filter p xs) ≡ trues (map p xs)
 length-filter_trues p xs = length-filter p xs ∙ sym (sum_by-map (λ b. cond b 1 0) p xs)

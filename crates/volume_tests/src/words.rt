@@ -47,17 +47,55 @@ demo seed=7 | 2
 demo size=1 seed=7 level=1 | 3
 demo size=1 seed=18446744073709551616 | 2
 demo size=2 seed=7 units=world | 3
-demo size=2 first=0 seed=7 | 2";
+demo size=2 first=0 seed=7 | 2
+demo size=2 seed=7 faces=yes | 3
+mesh a out level=1 faces=no | 4
+mesh a out level=1 faces= | 4
+mesh a out faces=yes level=1 faces=yes | 5
+mesh a out level=1 at=0,0,0 | 4
+count a level=1 faces=yes | 3
+count a at=0,0,0 | 2
+stream | 1
+stream a | 2
+stream a out | 3
+stream a _ level=1 | 2
+stream a out level=1 faces=yes | 4
+stream a out level=1 at=0,0,0 | 4
+stream a out level=1 workers=65 | 4
+audit | 1
+audit _ | 1
+audit a b | 2
+audit a level=1 | 2
+audit a faces=yes | 2
+probe a | 2
+probe a level=1 | 3
+probe a at=0,0,0 | 3
+probe a level=1 at=0,0 | 3
+probe a level=1 at=0,0,0,0 | 3
+probe a level=1 at=0,,0 | 3
+probe a level=1 at= | 3
+probe a level=1 at=0,01,0 | 3
+probe a level=1 at=0,+1,0 | 3
+probe a level=1 at=0,0.5,0 | 3
+probe a level=1 at=0,0,1099511627776 | 3
+probe a level=1 at=-1099511627776,0,0 | 3
+probe a at=0,0,0 at=0,0,0 level=1 | 3
+probe a level=1 at=0,0,0 workers=1 | 4
+probe a level=1 at=0,0,0 first=1 | 4";
 
 // Words, and what they say.
 const COMMANDS: &str =
-    "mesh a out level=1 | input 1, twice 2, below false, step 1, output 2, long 1023, short 1687, workers 4, slab 4, first 0, world false
-mesh a out level=1 long=0 short=0 workers=64 slab=64 step=64 below=yes | input 1, twice 2, below true, step 64, output 2, long 0, short 0, workers 64, slab 64, first 0, world false
-mesh level=2 step=3 slab=1 workers=64 short=2047 long=1023 level=10.0 | input 1, twice 20, below false, step 1, output 2, long 1023, short 2047, workers 64, slab 1, first 0, world false
-mesh a out level=1 first=1 units=world | input 1, twice 2, below false, step 1, output 2, long 1023, short 1687, workers 4, slab 4, first 1, world true
-mesh a out units=world workers=2 first=1 level=1 slab=3 | input 1, twice 2, below false, step 1, output 2, long 1023, short 1687, workers 2, slab 3, first 1, world true
-mesh a out first=0 level=-1 units=index | input 1, twice -2, below false, step 1, output 2, long 1023, short 1687, workers 4, slab 4, first 0, world false
+    "mesh a out level=1 | input 1, twice 2, below false, step 1, output 2, long 1023, short 1687, workers 4, slab 4, first 0, world false, faces false, streamed false
+mesh a out level=1 long=0 short=0 workers=64 slab=64 step=64 below=yes | input 1, twice 2, below true, step 64, output 2, long 0, short 0, workers 64, slab 64, first 0, world false, faces false, streamed false
+mesh level=2 step=3 slab=1 workers=64 short=2047 long=1023 level=10.0 | input 1, twice 20, below false, step 1, output 2, long 1023, short 2047, workers 64, slab 1, first 0, world false, faces false, streamed false
+mesh a out level=1 first=1 units=world | input 1, twice 2, below false, step 1, output 2, long 1023, short 1687, workers 4, slab 4, first 1, world true, faces false, streamed false
+mesh a out units=world workers=2 first=1 level=1 slab=3 | input 1, twice 2, below false, step 1, output 2, long 1023, short 1687, workers 2, slab 3, first 1, world true, faces false, streamed false
+mesh a out first=0 level=-1 units=index faces=yes | input 1, twice -2, below false, step 1, output 2, long 1023, short 1687, workers 4, slab 4, first 0, world false, faces true, streamed false
+stream a out first=1 slab=1 workers=2 level=-1 units=world long=7 short=9 step=3 | input 1, twice -2, below false, step 3, output 2, long 7, short 9, workers 2, slab 1, first 1, world true, faces false, streamed true
 count a step=2 level=199.5 | input 1, twice 399, below false, step 2
+audit a | files 1, twice 0, below false, step 1
+probe a level=0.5 at=1,-2,1099511627775 | input 1, twice 1, below false, step 1, long 1023, short 1687, at 1 -2 1099511627775
+probe a at=-0,-1099511627775,0 short=0 step=64 level=2 long=5 below=yes | input 1, twice 4, below true, step 64, long 5, short 0, at 0 -1099511627775 0
 demo seed=7 slab=1 size=128 | size 128, seed 7, twice 399, below false, step 1";
 
 // What is read, the word, and the number that it is.
@@ -89,22 +127,36 @@ fn told(alloc: Global, command: &Command) -> Result<String, AllocError> {
     let source = match command.source() {
         Source::File { input } => format!(in alloc; "input {input}")?,
         Source::Phantom { size, seed } => format!(in alloc; "size {size}, seed {seed}")?,
+        Source::Finished { input } => format!(in alloc; "files {input}")?,
     };
     let mesh = match command.mesh() {
         None => String::new(alloc),
         Some(mesh) => format!(in alloc;
-            ", output {}, long {}, short {}, workers {}, slab {}, first {}, world {}",
+            ", output {}, long {}, short {}, workers {}, slab {}, first {}, world {}, faces {}, streamed {}",
             mesh.output,
             mesh.shares.share(true),
             mesh.shares.share(false),
             mesh.plan.workers,
             mesh.plan.slab,
             mesh.numbering,
-            mesh.world
+            mesh.world,
+            mesh.faces,
+            mesh.streamed
+        )?,
+    };
+    let probe = match command.probe() {
+        None => String::new(alloc),
+        Some(probe) => format!(in alloc;
+            ", long {}, short {}, at {} {} {}",
+            probe.shares.share(true),
+            probe.shares.share(false),
+            probe.at.x,
+            probe.at.y,
+            probe.at.z
         )?,
     };
     format!(in alloc;
-        "{source}, twice {}, below {}, step {}{mesh}",
+        "{source}, twice {}, below {}, step {}{mesh}{probe}",
         command.level().twice(),
         command.below(),
         command.step()

@@ -1,9 +1,10 @@
-ghost use Rattle.std.specs.Prelude.{◌≡◌};
+ghost use Rattle.std.specs.Prelude.{◌≡◌, ◌≤◌, IfSome};
 
 use bcc_lattice::{Layout, vertex_count, vertex_of};
 use command_line::Plan;
 use layer_cells::Cells;
 use mesh_lists::build_mesh;
+use samples::Field;
 use slab_survey::make_layer;
 use small_images::{one_sample, phantom_field};
 use snap_rule::{Shares, States, all_states};
@@ -11,6 +12,7 @@ use st_base::{Gate, Ledger, OpenGate, Tally};
 use std::alloc::Global;
 use std::sync::atomic::{AtomicBool, AtomicU64, Ordering};
 use std::test::*;
+use std::thread::Threads;
 use survey::{Survey, survey};
 
 #[test]
@@ -53,21 +55,35 @@ fn sum_of(ledgers: &[Tally]) -> u64 {
     sum
 }
 
+// The survey of a field by so many workers, in slabs of two layers and with the usual shares; and their ledgers.
+fn survey_by<'f, G: Gate + Sync, R: Threads + Sync>(
+    rt: &R,
+    alloc: Global,
+    field: &'f Field,
+    workers: u32,
+    gate: &G,
+) -> Option<(Survey<'f>, Vec<Tally>)>
+    requires low { 1 ≤ workers }
+    requires high { workers ≤ 64 }
+    ensures { IfSome result (λ r. r.0.subject.field ≡ field.now) }
+{
+    let shares = Shares::new(1023, 1687)?;
+    let _ = vertex_count(field.dims());
+    let plan = Plan { workers, slab: 1 };
+    let Ok(ledgers) = Vec::from_elem(alloc, Tally::new(), workers as usize) else {
+        return None;
+    };
+    match survey(rt, alloc, field, shares, plan, gate, ledgers) {
+        Ok(done) => Some(done),
+        Err(_) => None,
+    }
+}
+
 #[test]
 fn a_survey_by_one_worker(rt: HostRuntime) {
     let alloc = rt.alloc();
-    let (Some(field), Some(shares)) = (one_sample(alloc), Shares::new(1023, 1687)) else {
-        panic!(rt; "no field")
-    };
-    let _ = vertex_count(field.dims());
-    let plan = Plan {
-        workers: 1,
-        slab: 1,
-    };
-    let Ok(ledgers) = vec![in alloc; Tally::new(); 1] else {
-        panic!(rt; "no memory")
-    };
-    let Ok((done, ledgers)) = survey(&rt, alloc, &field, shares, plan, &OpenGate, ledgers) else {
+    let field = one_sample(alloc).expect(&rt, "a field");
+    let Some((done, ledgers)) = survey_by(&rt, alloc, &field, 1, &OpenGate) else {
         panic!(rt; "no memory")
     };
     assert_eq!(rt; done.made(), 5);
@@ -101,14 +117,7 @@ fn a_survey_by_three_workers(rt: HostRuntime) {
         panic!(rt; "no field")
     };
     let vertices = vertex_count(field.dims());
-    let plan = Plan {
-        workers: 3,
-        slab: 1,
-    };
-    let Ok(ledgers) = vec![in alloc; Tally::new(); 3] else {
-        panic!(rt; "no memory")
-    };
-    let Ok((done, ledgers)) = survey(&rt, alloc, &field, shares, plan, &OpenGate, ledgers) else {
+    let Some((done, ledgers)) = survey_by(&rt, alloc, &field, 3, &OpenGate) else {
         panic!(rt; "no memory")
     };
     let (Ok(mesh), Ok(all)) = (
@@ -153,24 +162,12 @@ impl Gate for Meeting {
 #[test]
 fn two_workers_survey_at_the_same_time(rt: HostRuntime) {
     let alloc = rt.alloc();
-    let (Some(field), Some(shares)) = (phantom_field(alloc, 12), Shares::new(1023, 1687)) else {
-        panic!(rt; "no field")
-    };
-    let _ = vertex_count(field.dims());
-    let plan = Plan {
-        workers: 2,
-        slab: 1,
-    };
+    let field = phantom_field(alloc, 12).expect(&rt, "a field");
     let gate = Meeting {
         passed: AtomicBool::new(false),
         met: AtomicBool::new(false),
     };
-    let Ok(ledgers) = vec![in alloc; Tally::new(); 2] else {
-        panic!(rt; "no memory")
-    };
-    if survey(&rt, alloc, &field, shares, plan, &gate, ledgers).is_err() {
-        panic!(rt; "no memory")
-    }
+    assert!(rt; survey_by(&rt, alloc, &field, 2, &gate).is_some());
     assert!(rt; gate.met.load(Ordering::SeqCst));
 }
 

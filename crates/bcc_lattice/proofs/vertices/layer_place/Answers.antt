@@ -1,7 +1,7 @@
 use Rattle.std.proofs.Common.{◌≡◌, ◌+◌, ◌-◌, ◌*◌, ◌/◌, ◌%◌, ◌<◌, ◌≤◌, ℕ, sym, subst}
 use Rattle.definitions.specs.declared.Dims.{Dims}
 use Rattle.lattice_counts.specs.Counts.{StandsInLayer, even_len, odd_len}
-use Rattle.lattice_counts.proofs.Ranks.{in_even, in_odd}
+use Rattle.lattice_counts.proofs.Places.{in_even, in_odd}
 use Rattle.bcc_lattice.proofs.vertices.layer_place.Goals as goal
 
 -- a fact on the sizes of an even and an odd layer is one on what the call answers

@@ -3,7 +3,7 @@ use Rattle.definitions.specs.declared.Dims.{Dims}
 use Rattle.definitions.specs.declared.Vertex.{Vertex}
 use Rattle.definitions.specs.Lattice.{InDomain, vertex}
 use Rattle.lattice_counts.specs.Counts.{before_in_layer, row_len, vertex_in_layer}
-use Rattle.lattice_counts.proofs.Ranks.{place_of_row}
+use Rattle.lattice_counts.proofs.Places.{place_of_row}
 use Rattle.bcc_lattice.proofs.vertices.vertex_in.Goals as goal
 
 -- the same vertex, by the number of vertices in a row

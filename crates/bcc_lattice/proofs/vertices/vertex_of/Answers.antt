@@ -1,6 +1,6 @@
 use Rattle.std.proofs.Common.{◌≡◌, ◌+◌, sym, ◌∙◌, ℕ}
 use Rattle.lattice_counts.specs.Counts.{below_layer, before_in_layer}
-use Rattle.lattice_counts.proofs.Ranks.{vertex_by_place}
+use Rattle.lattice_counts.proofs.Places.{vertex_by_place}
 use Rattle.definitions.specs.declared.Dims.{Dims}
 use Rattle.definitions.specs.declared.Vertex.{Vertex}
 use Rattle.bcc_lattice.proofs.vertices.vertex_of.Goals as goal

@@ -2,7 +2,9 @@ use Rattle.std.proofs.Common.{ℕ, ◌+◌, drop, sym, subst, arith, ◌∙◌}
 use Rattle.command_line.specs.Grammar.{IsBadPlace}
 use Rattle.command_words.specs.Commands.{IsBadName}
 use Rattle.command_words.specs.Settings.{IsTaken, IsStop}
-use Rattle.command_words.proofs.Places.{no_verb, bad_name_place, opened, stop_place, no_command, reads_all, long_within, short_within, size_within, step_within, step_seen, plan_within, plan_is_seen, numbering_within, numbering_seen, source_seen, output_seen}
+use Rattle.command_words.proofs.Places.{no_verb, bad_name_place, opened, stop_place}
+use Rattle.command_words.proofs.Meanings.{no_command, reads_all}
+use Rattle.command_words.proofs.Limits.{point_within, point_seen, long_within, short_within, size_within, step_within, step_seen, plan_within, plan_is_seen, numbering_within, numbering_seen, source_seen, output_seen}
 use Rattle.command_words.proofs.read.read_words.Goals as goal
 
 pub returns-in_default-clause-place : goal.returns-in_default-clause-place
@@ -67,3 +69,8 @@ pub returns-in-Some-command_by-clause-numbering : goal.returns-in-Some-command_b
 returns-in-Some-command_by-clause-numbering c =
     numbering_seen c.in-Some.verb c.in-Ok.seen c.in-Some-command_by.command (sym c.command_by.ensures ∙ c.in-Some-command_by.is)
     (numbering_within c.in-Some.verb (drop (c.file_count-files.result + 1) c.args.words.now) c.in-Ok.seen c.in-Ok.ensures.all)
+
+pub returns-in-Some-command_by-clause-point : goal.returns-in-Some-command_by-clause-point
+returns-in-Some-command_by-clause-point c =
+    point_seen c.in-Some.verb c.in-Ok.seen c.in-Some-command_by.command (sym c.command_by.ensures ∙ c.in-Some-command_by.is)
+    (point_within c.in-Some.verb (drop (c.file_count-files.result + 1) c.args.words.now) c.in-Ok.seen c.in-Ok.ensures.all)

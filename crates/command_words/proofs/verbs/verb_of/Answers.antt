@@ -10,3 +10,12 @@ returns-then-is_word-2-clause-text c = first_is c.args.words.now (codes "mesh") 
 
 pub returns-then-is_word-3-clause-text : goal.returns-then-is_word-3-clause-text
 returns-then-is_word-3-clause-text c = first_is c.args.words.now (codes "demo") (sym c.if-is_word-3.ensures)
+
+pub returns-then-is_word-4-clause-text : goal.returns-then-is_word-4-clause-text
+returns-then-is_word-4-clause-text c = first_is c.args.words.now (codes "audit") (sym c.if-is_word-4.ensures)
+
+pub returns-then-is_word-5-clause-text : goal.returns-then-is_word-5-clause-text
+returns-then-is_word-5-clause-text c = first_is c.args.words.now (codes "probe") (sym c.if-is_word-5.ensures)
+
+pub returns-then-is_word-6-clause-text : goal.returns-then-is_word-6-clause-text
+returns-then-is_word-6-clause-text c = first_is c.args.words.now (codes "stream") (sym c.if-is_word-6.ensures)

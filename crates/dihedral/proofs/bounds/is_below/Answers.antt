@@ -1,6 +1,6 @@
-use Rattle.lattice_laws.proofs.Lists.{at_most_from_test}
+use Rattle.std.proofs.lemmas.Bool.{leb-true}
 use Rattle.dihedral.proofs.QuickBounds.{below_bound}
 use Rattle.dihedral.proofs.bounds.is_below.Goals as goal
 
 pub returns-then-den : goal.returns-then-den
-returns-then-den c = λ h. below_bound c.args.a.num c.args.a.den c.high-num.result c.high-den.result c.args.bound c.high-num.ensures c.high-den.ensures (at_most_from_test _ _ h)
+returns-then-den c = λ h. below_bound c.args.a.num c.args.a.den c.high-num.result c.high-den.result c.args.bound c.high-num.ensures c.high-den.ensures (leb-true _ _ h)

@@ -1,4 +1,4 @@
-use Rattle.std.proofs.Common.{◌≡◌, ◌+◌, ℕ, List, ◌++◌, map, get_or, [], ◌<◌, length, length-append, arith, ap, ◌∙◌, subst, rules}
+use Rattle.std.proofs.Common.{◌≡◌, ◌+◌, ℕ, List, get_or, [], ◌<◌, length, length-append, arith, ap, ◌∙◌, subst}
 use Rattle.std.specs.Io.KnownBytes.{Appends}
 use Rattle.face_neigh.specs.Open.{open_triangles}
 use Rattle.face_neigh.proofs.BoundaryTriangles.{length-neighbours}

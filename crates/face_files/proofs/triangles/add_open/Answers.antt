@@ -1,10 +1,10 @@
 use Rattle.std.proofs.Common.{◌≡◌, ℕ, ◌+◌, List, [], ◌∷◌, ◌++◌, length, map, get_or, ap, ◌∙◌, append-nil, sym, None, rules}
 use Rattle.std.specs.Prelude.{is_none}
+use Rattle.std.proofs.lemmas.Result.{on_ok_weaker}
 use Rattle.adjacency.specs.Texts.{face_line}
 use Rattle.face_neigh.specs.Open.{one_if, open_triangles}
 use Rattle.face_files.specs.FileLines.{face_lines}
 use Rattle.face_files.proofs.Boundary.{open_one_by_one}
-use Rattle.face_files.proofs.Holding.{then_ok}
 use Rattle.face_files.proofs.Numbered.{lines_behind}
 use Rattle.face_files.proofs.triangles.add_open.Goals as goal
 
@@ -28,9 +28,10 @@ returns-clause-text c =
     ++ (one_if (r i) (get_or tet 0 0 ∷ get_or tet 3 0 ∷ get_or tet 2 0 ∷ [])
     ++ (one_if (s i) (get_or tet 1 0 ∷ get_or tet 2 0 ∷ get_or tet 3 0 ∷ []) ++ []))))
     ∙ sym (open_one_by_one tet c.args.across len) in
-    then_ok c.add_if-4.result c.add_if-4.ensures.text
+    on_ok_weaker c.add_if-4.result
     (λ last. lines_behind face_line told c.args.number c.in_ok-second.second a (b ++ (d ++ (e ++ []))) c.args.out.now.items c.add_if.new.out.items c.add_if-4.new.out.items c.in_ok-second.ensures.text c.in_ok-second.ensures.next
     (lines_behind face_line told c.in_ok-second.second c.in_ok-third.third b (d ++ (e ++ [])) c.add_if.new.out.items c.add_if-2.new.out.items c.add_if-4.new.out.items c.in_ok-third.ensures.text c.in_ok-third.ensures.next
     (lines_behind face_line told c.in_ok-third.third c.in_ok-fourth.fourth d (e ++ []) c.add_if-2.new.out.items c.add_if-3.new.out.items c.add_if-4.new.out.items c.in_ok-fourth.ensures.text c.in_ok-fourth.ensures.next
     (last ∙ ap (λ l. c.add_if-3.new.out.items ++ face_lines first c.in_ok-fourth.fourth l) (sym (append-nil e)))))
     ∙ ap (λ l. c.args.out.now.items ++ face_lines first c.args.number l) all)
+    c.add_if-4.ensures.text

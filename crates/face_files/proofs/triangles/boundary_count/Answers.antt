@@ -1,4 +1,4 @@
-use Rattle.std.proofs.Common.{rules, ◌≡◌, ◌+◌, ◌<◌, ◌++◌, length, get_or, [], arith, ap, ◌∙◌, length-append}
+use Rattle.std.proofs.Common.{◌≡◌, ◌<◌, length, get_or, [], arith, ap, ◌∙◌, length-append}
 use Rattle.face_neigh.specs.Open.{open_triangles}
 use Rattle.face_neigh.proofs.BoundaryTriangles.{length-neighbours}
 use Rattle.face_files.specs.FileLines.{boundary_to}

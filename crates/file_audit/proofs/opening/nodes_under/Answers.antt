@@ -1,6 +1,7 @@
 use Rattle.mesh_files.specs.Files.{nodes_of}
-use Rattle.file_audit.proofs.Opened.{told_left, file_said, file_took, long_nodes}
+use Rattle.file_audit.proofs.Opened.{told_left, file_said, file_took}
 use Rattle.file_audit.proofs.opening.nodes_under.Goals as goal
+use Rattle.mesh_read.proofs.Readings.{long_nodes}
 
 pub returns-in-Ok-clause-says : goal.returns-in-Ok-clause-says
 returns-in-Ok-clause-says g c = λ text e.

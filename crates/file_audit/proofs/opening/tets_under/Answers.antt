@@ -1,6 +1,7 @@
 use Rattle.mesh_files.specs.Files.{tets_of}
-use Rattle.file_audit.proofs.Opened.{told_left, file_said, file_took, long_tets}
+use Rattle.file_audit.proofs.Opened.{told_left, file_said, file_took}
 use Rattle.file_audit.proofs.opening.tets_under.Goals as goal
+use Rattle.mesh_read.proofs.Readings.{long_tets}
 
 pub returns-in-Ok-clause-says : goal.returns-in-Ok-clause-says
 returns-in-Ok-clause-says g c = λ text e.

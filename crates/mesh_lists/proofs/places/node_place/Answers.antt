@@ -1,10 +1,9 @@
-use Rattle.std.proofs.Common.{◌≡◌, ℕ, ◌≤◌, ◌<◌, ◌⊎◌, inl, inr, arith, sym, ◌∙◌, ap}
-use Rattle.bcc_lattice.specs.Directions.{IsDirection}
+use Rattle.std.proofs.Common.{◌≡◌, ◌≤◌, sym, ◌∙◌, ap}
 use Rattle.definitions.specs.Lattice.{id}
 use Rattle.definitions.specs.Mesh.{edge_cut, state_at}
 use Rattle.definitions.specs.Places.{cut_place, state_place}
 use Rattle.lattice_laws.proofs.Vertices.{vertex_at-id}
-use Rattle.mesh_lists.proofs.NodePlaces.{edge_place, vertex_place}
+use Rattle.mesh_lists.proofs.NodePlaces.{edge_place, vertex_place, only_zero}
 use Rattle.mesh_lists.proofs.places.node_place.Goals as goal
 
 pub returns-in-Some : goal.returns-in-Some
@@ -16,13 +15,6 @@ returns-in-Some c =
     let low : 1 ≤ c.args.dir = is.0.low in
     c.cut_place.ensures.place ∙ ap (cut_place v c.in-Some.dir) c.edge_cut.ensures ∙ (λ i. cut_place v (e i) (edge_cut f v (e i)))
     ∙ sym (edge_place f c.args.states.now.states v (id f.dims v) c.args.dir (vertex_at-id f.dims v c.requires.domain).1 low c.requires.dir)
-
--- no direction below 8 but 0
-only_zero : (n : ℕ) → n < 8 → (IsDirection n → ⊥) → n ≡ 0
-only_zero n lt never = elim (zero_or_more n) [ inl e ↦ e | inr low ↦ absurd (never (record { low = low; high = omega arith })) ]
-  where
-    zero_or_more : (n : ℕ) → (n ≡ 0) ⊎ (1 ≤ n)
-    zero_or_more n = grind arith
 
 pub returns-in-None : goal.returns-in-None
 returns-in-None c =

@@ -1,10 +1,9 @@
-use Rattle.std.proofs.Common.{◌≡◌, ℕ, ◌+◌, ◌*◌, ◌/◌, ◌%◌, ◌≤◌, ◌<◌, ◌⊎◌, inl, inr, arith, sym, ◌∙◌, ap}
-use Rattle.bcc_lattice.specs.Directions.{IsDirection}
+use Rattle.std.proofs.Common.{◌≡◌, ℕ, ◌+◌, ◌*◌, ◌/◌, ◌%◌, ◌≤◌, arith, sym, ◌∙◌, ap}
 use Rattle.definitions.specs.Lattice.{id}
 use Rattle.definitions.specs.Mesh.{edge_cut, node_place}
 use Rattle.definitions.specs.Places.{cut_place, state_place}
 use Rattle.lattice_laws.proofs.Vertices.{vertex_at-id}
-use Rattle.mesh_lists.proofs.NodePlaces.{edge_place, vertex_place}
+use Rattle.mesh_lists.proofs.NodePlaces.{edge_place, vertex_place, only_zero}
 use Rattle.mesh_probe.proofs.nodes.place_towards.Goals as goal
 
 key_is : (key n d : ℕ) → key / 8 ≡ n → key % 8 ≡ d → 8 * n + d ≡ key
@@ -20,13 +19,6 @@ returns-in-Some c = λ ss told key e h.
     c.cut_place.ensures.place ∙ ap (cut_place v c.in-Some.dir) c.edge_cut.ensures ∙ (λ i. cut_place v (same i) (edge_cut f v (same i)))
     ∙ sym (edge_place f ss v (id f.dims v) c.args.dir (vertex_at-id f.dims v c.requires.domain).1 low c.requires.dir)
     ∙ ap (node_place f ss) (key_is key (id f.dims v) c.args.dir e h)
-
--- no direction below 8 but 0
-only_zero : (n : ℕ) → n < 8 → (IsDirection n → ⊥) → n ≡ 0
-only_zero n lt never = elim (zero_or_more n) [ inl e ↦ e | inr low ↦ absurd (never (record { low = low; high = omega arith })) ]
-  where
-    zero_or_more : (n : ℕ) → (n ≡ 0) ⊎ (1 ≤ n)
-    zero_or_more n = grind arith
 
 pub returns-in-None : goal.returns-in-None
 returns-in-None c = λ ss told key e h.

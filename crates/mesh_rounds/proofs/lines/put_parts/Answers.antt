@@ -8,10 +8,21 @@ use Rattle.st_base.specs.Desk.{AppendsPart}
 use Rattle.slab_emit.specs.declared.Part.{Part}
 use Rattle.mesh_rounds.proofs.lines.put_parts.Goals as goal
 
-pub returns-in-Err-clause-part : goal.returns-in-Err-clause-part
-returns-in-Err-clause-part g c =
-    let part = subst (λ (t : List ℕ). AppendsPart (g.D.Desk.ports c.loop-n.desk c.args.port).text (g.D.Desk.ports c.put_all.new.desk c.args.port).text t) (c.deref.ensures.value ∙ ap (λ (p : Part). p.text.items) c.index-parts-n.is) c.in-Err.ensures.part in
-    part_broke (g.D.Desk.ports c.args.desk.now c.args.port).text (g.D.Desk.ports c.loop-n.desk c.args.port).text (g.D.Desk.ports c.put_all.new.desk c.args.port).text c.args.parts.now c.loop-n.n c.index-parts-n.result c.loop-n-test.true c.loop-n.invariant.text part
+pub returns-in-Err-clause-puts : goal.returns-in-Err-clause-puts
+returns-in-Err-clause-puts g c =
+    let i = c.loop-n.invariant in
+    let e = c.in-Err.ensures in
+    let part = subst (λ (t : List ℕ). AppendsPart (g.D.Desk.ports c.loop-n.desk c.args.port).text (g.D.Desk.ports c.put_all.new.desk c.args.port).text t) (c.deref.ensures.value ∙ ap (λ (p : Part). p.text.items) c.index-parts-n.is) e.part in
+    record {
+      all = tt;
+      part = part_broke (g.D.Desk.ports c.args.desk.now c.args.port).text (g.D.Desk.ports c.loop-n.desk c.args.port).text (g.D.Desk.ports c.put_all.new.desk c.args.port).text c.args.parts.now c.loop-n.n c.index-parts-n.result c.loop-n-test.true i.text part;
+      fault = search rules;
+      none = search rules;
+      later = search rules;
+      is_open = e.is_open;
+      name = e.name ∙ i.name;
+      apart = then_port i.apart e.apart;
+    }
 
 pub loop-n-preserved : goal.loop-n-preserved
 loop-n-preserved g c =

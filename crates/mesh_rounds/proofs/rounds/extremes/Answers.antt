@@ -1,15 +1,15 @@
-use Rattle.std.proofs.Common.{◌≡◌, ◌∙◌, ap, arith}
+use Rattle.std.proofs.Common.{◌≡◌, ◌≤◌, ◌^◌, ◌∙◌, ap, arith, subst}
 use Rattle.definitions.specs.Layout.{slabs}
 use Rattle.slab_emit.specs.declared.Lines.TheVariants.{Angles}
 use Rattle.mesh_rounds.specs.Rounds.{extremes_to}
-use Rattle.mesh_rounds.proofs.AllRounds.{at_end, found_all, found_none}
+use Rattle.mesh_rounds.proofs.AllRounds.{at_end, found_all, none_reached}
 use Rattle.mesh_rounds.proofs.rounds.extremes.Goals as goal
 
 pub loop-reached-init : goal.loop-reached-init
-loop-reached-init g c = record { reached = record { within = omega arith; found = found_none Angles c.args.source.now; fractions = λ x e. (let q = e in cc) }; crew = omega arith }
+loop-reached-init g c = record { reached = none_reached Angles c.args.source.now (subst (λ n. n ≤ 2 ^ 23) c.slabs-slabs.ensures.slabs c.slabs-slabs.ensures.small) c.slabs-slabs.ensures.measured; crew = omega arith }
 
 pub loop-reached-preserved : goal.loop-reached-preserved
-loop-reached-preserved g c = record { reached = c.in-Ok.ensures.reached; crew = omega arith }
+loop-reached-preserved g c = record { reached = c.in-Ok.ensures.round.reached; crew = omega arith }
 
 pub returns : goal.returns
 returns g c =

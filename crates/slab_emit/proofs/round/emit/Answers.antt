@@ -1,9 +1,10 @@
 use Rattle.std.proofs.Common.{rules, ◌≡◌, arith, length, subst, sym, ap, ◌∙◌}
 use Rattle.list_words.specs.Words.{EachOnce}
+use Rattle.list_words.proofs.Lists.{each_stands}
 use Rattle.slab_claims.specs.Seats.{DrawnValue}
 use Rattle.slab_emit.specs.Workers.{FitPlaces, IsFilled}
 use Rattle.crews.proofs.Workers.{written}
-use Rattle.slab_emit.proofs.Placing.{fit_none, stands}
+use Rattle.slab_emit.proofs.Placing.{fit_none}
 use Rattle.slab_emit.proofs.round.emit.Goals as goal
 
 pub gather-seat-requires-clause-len : goal.gather-seat-requires-clause-len
@@ -22,7 +23,7 @@ collect-requires g c = record {
       let l : c.in_ok-places.places.len ≡ length c.in_ok-places.places.items = let o = c.in_ok-places.places.ok in search rules in
       let items = written c.gather-seat.new.places c.in_ok-places.places.items c.in_ok-places.places.len (omega arith) (omega arith) in
       let once : EachOnce c.in-Ok.claims.slabs c.gather-seat.result.drawn = subst (λ (d : DrawnValue). EachOnce d.slabs d.list) c.close.ensures.drawn c.close.ensures.each_once in
-      subst (λ l. IsFilled l x) (sym (c.as_mut_slice-2.ensures.value ∙ items)) (λ d lt. c.gather-seat.ensures.filled x (stands c.in-Ok.claims.slabs x c.gather-seat.result.drawn once (omega arith)) d lt);
+      subst (λ l. IsFilled l x) (sym (c.as_mut_slice-2.ensures.value ∙ items)) (λ d lt. c.gather-seat.ensures.filled x (each_stands c.in-Ok.claims.slabs x c.gather-seat.result.drawn once (omega arith)) d lt);
 }
 
 pub returns-clause-parts : goal.returns-clause-parts

@@ -3,9 +3,9 @@ use Rattle.std.specs.Option.{option_to_list}
 use Rattle.std.proofs.lemmas.List.Elements.{All-pop}
 use Rattle.std.proofs.lemmas.List.Sums.{sum_by_push}
 use Rattle.std.specs.Prelude.{IfSome}
+use Rattle.std.proofs.lemmas.Bool.{or_cases}
 use Rattle.list_words.specs.Words.{has}
 use Rattle.list_words.proofs.Lists.{has_append}
-use Rattle.list_words.proofs.Tests.{either_true}
 use Rattle.slab_claims.specs.Seats.{SeatValue}
 use Rattle.slab_emit.specs.declared.worker.Worker.{Worker}
 use Rattle.slab_emit.specs.Workers.{HasMade, IsFinished, shares_of}
@@ -74,7 +74,7 @@ loop-worker-preserved c =
       filled = λ x h. ⊎_elim
           (λ (a : has x c.loop-worker.seat.drawn ≡ true). e.kept x (i.filled x a))
           (λ (b : has x c.take_in-other.result.drawn ≡ true). e.filled x (sym (ap (λ (s : SeatValue). has x s.drawn) e.seat) ∙ b))
-          (either_true (has x c.loop-worker.seat.drawn) (has x c.take_in-other.result.drawn)
+          (or_cases (has x c.loop-worker.seat.drawn) (has x c.take_in-other.result.drawn)
           (sym (has_append x c.loop-worker.seat.drawn c.take_in-other.result.drawn) ∙ sym (ap (λ (s : SeatValue). has x s.drawn) join) ∙ h));
       rest = λ lines s first h. (All-pop (HasMade lines s first) before after c.pop-in-loop-worker.result items (i.rest lines s first h)).0;
       fit = λ lines s first h fit. e.fit lines s first (last_of (HasMade lines s first) before after w c.pop-in-loop-worker.result items is (i.rest lines s first h)) (i.fit lines s first h fit);

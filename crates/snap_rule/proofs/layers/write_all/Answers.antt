@@ -3,7 +3,8 @@ use Rattle.definitions.specs.Lattice.{vertices, vertex_at, layers}
 use Rattle.definitions.specs.Layout.{layer_len}
 use Rattle.definitions.specs.States.{code, state_of}
 use Rattle.lattice_counts.specs.Counts.{below_layer, even_len, odd_len}
-use Rattle.lattice_counts.proofs.Ranks.{below_grows, layer_within, vertex_at_place, all_length}
+use Rattle.lattice_counts.proofs.Ranks.{below_grows, all_length}
+use Rattle.lattice_counts.proofs.Places.{layer_within, vertex_at_place}
 use Rattle.snap_rule.proofs.Places.{part_more, all_filled}
 use Rattle.snap_rule.proofs.layers.write_all.Goals as goal
 

@@ -2,7 +2,8 @@ use Rattle.std.proofs.Common.{◌≡◌, ℕ, ◌+◌, ◌*◌, ◌<◌, ◌≤�
 use Rattle.definitions.specs.declared.Dims.{Dims}
 use Rattle.definitions.specs.States.{code, state_of}
 use Rattle.lattice_counts.specs.Counts.{row_len, vertex_in_layer}
-use Rattle.lattice_counts.proofs.Ranks.{layer_length, vertex_of_row}
+use Rattle.lattice_counts.proofs.Ranks.{layer_length}
+use Rattle.lattice_counts.proofs.Places.{vertex_of_row}
 use Rattle.snap_rule.proofs.Places.{part_more, rows_within, next_row}
 use Rattle.snap_rule.proofs.layers.write_layer.Goals as goal
 

@@ -7,5 +7,5 @@ use Rattle.stream_write.proofs.stream.stream_slabs.Goals as goal
 
 pub stream_lines-requires-clause-printable : goal.stream_lines-requires-clause-printable
 stream_lines-requires-clause-printable g c κs within =
-    subst (λ (l : Lines). CanPrint l c.source_of-source.result) (sym c.lines_of.ensures)
+    subst (λ (l : Lines). CanPrint l c.source_of-source.result) (sym c.lines_of-lines.ensures)
     (subst (λ (s : SourceValue). CanPrint (lines_at c.args.frame c.args.numbering c.args.port) s) (sym c.source_of-source.ensures) (can_print c.args.frame c.args.numbering c.args.port c.args.survey.now c.requires.mesh_file c.requires.numbering c.requires.frame c.requires.sizes))

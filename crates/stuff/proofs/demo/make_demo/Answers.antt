@@ -1,5 +1,4 @@
-use Rattle.std.proofs.Common.{false, ◌≡◌, ◌∙◌, sym, refl}
-use Rattle.formats.specs.declared.Port.TheVariants.{Node, Ele, Report}
+use Rattle.std.proofs.Common.{[], ◌≡◌, ◌∙◌, sym, refl}
 use Rattle.formats.specs.declared.Status.TheVariants.{NoMemory}
 use Rattle.stuff.specs.Outputs.{demo_field, demo_text}
 use Rattle.stuff.proofs.PortEnds.{reports, untouched}
@@ -15,7 +14,7 @@ returns-in-Ok-clause-ends g c = λ name.
 
 pub returns-in-Err-clause-ends : goal.returns-in-Err-clause-ends
 returns-in-Err-clause-ends g c = λ name.
-    untouched g.D.Desk.ports NoMemory false name (λ p text. text ≡ demo_text (demo_field c.args.size c.args.seed) p) c.args.desk.now c.args.desk.now refl (λ p t. refl)
+    untouched g.D.Desk.ports NoMemory [] name (λ p text. text ≡ demo_text (demo_field c.args.size c.args.seed) p) c.args.desk.now c.args.desk.now refl (λ p t. refl)
     c.requires.faults
 
 pub returns-in-Ok-clause-trace : goal.returns-in-Ok-clause-trace

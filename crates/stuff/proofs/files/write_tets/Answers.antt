@@ -1,39 +1,19 @@
-use Rattle.std.proofs.Common.{◌≡◌, ◌∙◌, ap, inl, inr, refl, subst, arith, List, ℕ}
+use Rattle.std.proofs.Common.{ℕ, List, ap, subst}
 use Rattle.definitions.specs.Angles.{angles, extremes_of}
 use Rattle.definitions.specs.Mesh.{Mesh}
-use Rattle.std.specs.Prelude.{Err}
-use Rattle.node_ele_write.specs.declared.PutFault.{PutFault}
 use Rattle.formats.specs.declared.Port.TheVariants.{Ele}
-use Rattle.formats.specs.declared.Status.TheVariants.{WriteFault}
 use Rattle.mesh_texts.specs.Files.{ele_text}
-use Rattle.st_base.specs.Desk.{AppendsPart}
-use Rattle.stuff.specs.Writing.{IsBroken, IsWritten}
-use Rattle.stuff.proofs.Surveys.{mesh_is, unfinished, written}
+use Rattle.stuff.specs.Writing.{Puts}
+use Rattle.stuff.proofs.Surveys.{extremes_told, has_put, mesh_is}
 use Rattle.stuff.proofs.files.write_tets.Goals as goal
 
-pub returns-in-Err-WriteFault-clause-puts : goal.returns-in-Err-WriteFault-clause-puts
-returns-in-Err-WriteFault-clause-puts g c = record {
-  part = subst (λ (t : List ℕ). AppendsPart (g.D.Desk.ports c.args.desk.now Ele).text (g.D.Desk.ports c.put_tets.new.desk Ele).text t) (ap (λ (m : Mesh). ele_text c.args.numbering m.tets) (mesh_is c.args.survey.now c.source_of-source.result c.source_of-source.ensures)) c.in-Err-WriteFault.ensures.part;
-  named = c.in-Err-WriteFault.ensures.name;
-  cause = inl (refl, omega (arith, c.in-Err-WriteFault.ensures.fault (ap (λ (x : PutFault). Err x) c.in-Err-WriteFault.field-0-is), c.requires.faults));
-}
+pub returns-clause-puts : goal.returns-clause-puts
+returns-clause-puts g c =
+    subst (λ (t : List ℕ). Puts c.finished.result Ele (g.D.Desk.ports c.args.desk.now Ele) (g.D.Desk.ports c.finished.new.desk Ele) t) (ap (λ (m : Mesh). ele_text c.args.numbering m.tets) (mesh_is c.args.survey.now c.source_of-source.result c.source_of-source.ensures))
+    (c.finished.ensures.puts (g.D.Desk.ports c.args.desk.now Ele) _
+    (has_put g.D.Desk Ele c.args.desk.now c.put_tets-put.new.desk _ c.put_tets-put.result c.put_tets-put.ensures.puts c.requires.faults))
 
-pub returns-in-Err-NoMemory-clause-puts : goal.returns-in-Err-NoMemory-clause-puts
-returns-in-Err-NoMemory-clause-puts g c = record {
-  part = subst (λ (t : List ℕ). AppendsPart (g.D.Desk.ports c.args.desk.now Ele).text (g.D.Desk.ports c.put_tets.new.desk Ele).text t) (ap (λ (m : Mesh). ele_text c.args.numbering m.tets) (mesh_is c.args.survey.now c.source_of-source.result c.source_of-source.ensures)) c.in-Err-NoMemory.ensures.part;
-  named = c.in-Err-NoMemory.ensures.name;
-  cause = inr (refl, c.in-Err-NoMemory.ensures.none (λ e. cc) ∙ c.requires.faults);
-}
-
-pub returns-in-Ok-finish-clause-puts : goal.returns-in-Ok-finish-clause-puts
-returns-in-Ok-finish-clause-puts g c =
-    subst (λ (t : List ℕ). IsWritten (g.D.Desk.ports c.args.desk.now Ele) (g.D.Desk.ports c.finish.new.self Ele) t) (ap (λ (m : Mesh). ele_text c.args.numbering m.tets) (mesh_is c.args.survey.now c.source_of-source.result c.source_of-source.ensures))
-    (written _ (g.D.Desk.ports c.put_tets.new.desk Ele) _ _ c.in-Ok.ensures.all c.in-Ok.ensures.name (c.in-Ok.ensures.none (λ e. cc) ∙ c.requires.faults) c.finish.ensures.text c.finish.ensures.name c.finish.ensures.closed c.in-Ok-finish.ensures.cause.kept)
-
-pub returns-in-Err-clause-puts : goal.returns-in-Err-clause-puts
-returns-in-Err-clause-puts g c =
-    subst (λ (t : List ℕ). IsBroken (WriteFault Ele) Ele (g.D.Desk.ports c.args.desk.now Ele) (g.D.Desk.ports c.finish.new.self Ele) t) (ap (λ (m : Mesh). ele_text c.args.numbering m.tets) (mesh_is c.args.survey.now c.source_of-source.result c.source_of-source.ensures))
-    (unfinished Ele _ (g.D.Desk.ports c.put_tets.new.desk Ele) _ _ c.in-Ok.ensures.all c.in-Ok.ensures.name (c.in-Ok.ensures.none (λ e. cc) ∙ c.requires.faults) c.finish.ensures.text c.finish.ensures.name c.in-Err.ensures.cause.failed)
-
-pub returns-in-Ok-finish-clause-extremes : goal.returns-in-Ok-finish-clause-extremes
-returns-in-Ok-finish-clause-extremes g c = c.in-Ok.ensures.extremes ∙ ap (λ (m : Mesh). extremes_of (angles m)) (mesh_is c.args.survey.now c.source_of-source.result c.source_of-source.ensures)
+pub returns-clause-extremes : goal.returns-clause-extremes
+returns-clause-extremes g c =
+    extremes_told c.put_tets-put.result c.finished.result _ _ c.put_tets-put.ensures.extremes c.finished.ensures.value
+    (ap (λ (m : Mesh). extremes_of (angles m)) (mesh_is c.args.survey.now c.source_of-source.result c.source_of-source.ensures))

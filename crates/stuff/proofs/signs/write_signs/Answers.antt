@@ -1,5 +1,4 @@
-use Rattle.std.proofs.Common.{false, ◌≡◌, ◌∙◌, sym, refl}
-use Rattle.formats.specs.declared.Port.TheVariants.{Node, Ele, Report}
+use Rattle.std.proofs.Common.{[], ◌≡◌, ◌∙◌, sym, refl}
 use Rattle.formats.specs.declared.Status.TheVariants.{NoMemory}
 use Rattle.stuff.specs.Outputs.{signs_text}
 use Rattle.stuff.proofs.PortEnds.{reports, untouched}
@@ -13,5 +12,5 @@ returns-in-Ok-clause-ends g c = λ name.
 
 pub returns-in-Err-clause-ends : goal.returns-in-Err-clause-ends
 returns-in-Err-clause-ends g c = λ name.
-    untouched g.D.Desk.ports NoMemory false name (λ p text. text ≡ signs_text c.args.field.now p) c.args.desk.now c.args.desk.now refl (λ p t. refl)
+    untouched g.D.Desk.ports NoMemory [] name (λ p text. text ≡ signs_text c.args.field.now p) c.args.desk.now c.args.desk.now refl (λ p t. refl)
     c.requires.faults

@@ -1,21 +1,23 @@
-use Rattle.std.proofs.Common.{get_or, arith}
+use Rattle.std.proofs.Common.{rules, ◌≡◌, ◌<◌, ℕ, true, get_or, length, arith}
 use Rattle.slab_survey.specs.Workers.{WorkerValue}
 use Rattle.crews.proofs.Workers.{sums_same}
+use Rattle.survey_workers.specs.Going.{IsGoing}
 use Rattle.survey_workers.proofs.Going.{ends}
 use Rattle.survey_workers.proofs.drive.run_to_end.Goals as goal
 
-pub returns-clause-ended : goal.returns-clause-ended
-returns-clause-ended g c =
-    let e = c.run_all.ensures in
-    let long = e.len in
-    λ k b lt.
-    let w = e.went k b (omega arith) in
-    ends g.L.Ledger.count c.args.field.now.dims c.args.layout.now.slab c.args.claims.now c.args.cells.now (get_or c.args.workers.items k b) (get_or c.run_all.result.items k b) w.0 w.1
-
-pub returns-clause-shares : goal.returns-clause-shares
-returns-clause-shares g c =
-    let e = c.run_all.ensures in
-    sums_same (λ (w : WorkerValue g.row.L.Denot). w.claims.share) c.args.workers.items c.run_all.result.items e.len (λ i b lt. (e.went i b lt).0.share)
-
-pub returns-clause-ledgers : goal.returns-clause-ledgers
-returns-clause-ledgers g c i e lt = (c.run_all.ensures.went i e lt).0.ledger
+pub returns : goal.returns
+returns g c =
+    let count = g.L.Ledger.count in
+    let d = c.args.field.now.dims in
+    let t = c.args.layout.now.slab in
+    let befores = c.args.workers.items in
+    let afters = c.run_each.result.items in
+    let long = c.run_each.ensures.len in
+    let went : (i : ℕ) (w : WorkerValue g.row.L.Denot) → i < length befores → IsGoing count d t c.args.claims.now c.args.cells.now (get_or befores i w) (get_or afters i w) (get_or afters i w).claims.drawn = (λ i w lt. let h = c.run_each.ensures.changes i w lt in search rules) in
+    let done : (i : ℕ) (w : WorkerValue g.row.L.Denot) → i < length befores → (get_or afters i w).claims.done ≡ true = (λ i w lt. let h = c.run_each.ensures.changes i w lt in search rules) in
+    record {
+      ended = λ k w lt. ends count d t c.args.claims.now c.args.cells.now (get_or befores k w) (get_or afters k w) (went k w (omega arith)) (done k w (omega arith));
+      shares = sums_same (λ (w : WorkerValue g.row.L.Denot). w.claims.share) befores afters long (λ i w lt. (went i w lt).share);
+      len = long;
+      ledgers = λ i w lt. (went i w lt).ledger;
+    }

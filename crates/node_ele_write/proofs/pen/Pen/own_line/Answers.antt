@@ -1,6 +1,5 @@
-use Rattle.std.proofs.Common.{◌≡◌, List, ℕ, ◌++◌, ◌∷◌, [], decimal, pos, rules, subst, slice_index_or}
+use Rattle.std.proofs.Common.{◌≡◌, List, ℕ, ◌++◌, ◌∷◌, decimal, pos, rules, subst, slice_index_or}
 use Rattle.std.specs.Prelude.{OnOk}
-use Rattle.formats.specs.declared.Axis.{Axis}
 use Rattle.mesh_texts.specs.Frames.{world_text, world_value}
 use Rattle.mesh_texts.specs.Lines.{marker_text}
 use Rattle.node_ele_write.proofs.Lines.{own_line_row}
