@@ -13,10 +13,10 @@ use Rattle.lattice_laws.proofs.Volumes.{all_coordinates}
 use Rattle.dihedral.specs.Fractions.{normal, opposite}
 
 -- one coordinate of the normal of three places, from their other two coordinates
-abbrev minor_of : ℤ → ℤ → ℤ → ℤ → ℤ → ℤ → ℤ
+abbrev pub minor_of : ℤ → ℤ → ℤ → ℤ → ℤ → ℤ → ℤ
 minor_of a b c d e f = ((c -ℤ a) *ℤ (f -ℤ b)) -ℤ ((d -ℤ b) *ℤ (e -ℤ a))
 
-abbrev minor_expression : ℕ → ℕ → ℕ → ℕ → ℕ → ℕ → Expression
+abbrev pub minor_expression : ℕ → ℕ → ℕ → ℕ → ℕ → ℕ → Expression
 minor_expression a b c d e f =
     less_expression (times (less_expression (variable c) (variable a)) (less_expression (variable f) (variable b))) (times (less_expression (variable d) (variable b)) (less_expression (variable e) (variable a)))
 
@@ -97,3 +97,7 @@ third_is_some a b c d h = square_positive (normal a b d) (minus c a) (volume a b
 
 pub fourth_is_some : (a b c d : Place) → pos 0 <ℤ volume a b c d → 1 ≤ unsigned_abs (dot (normal a c b) (normal a c b))
 fourth_is_some a b c d h = square_positive (normal a c b) (minus d a) (volume a b c d) h (height_fourth a b c d)
+
+-- the square of a vector is at least 0
+pub dot_nonnegative : (n : Place) → pos 0 ≤ℤ dot n n
+dot_nonnegative n = sum_nonnegative ((n.x *ℤ n.x) +ℤ (n.y *ℤ n.y)) (n.z *ℤ n.z) (sum_nonnegative (n.x *ℤ n.x) (n.y *ℤ n.y) (square_nonnegative n.x) (square_nonnegative n.y)) (square_nonnegative n.z)

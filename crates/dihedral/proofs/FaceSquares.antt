@@ -1,5 +1,5 @@
 -- The square of the cosine at each edge of a tetrahedron, by the normals of its faces.
-use Rattle.std.proofs.Common.{◌≡◌, ℕ, zero, suc, ◌*◌, ◌<◌, ◌≤◌, ◌^◌, refl, ap, sym, ◌∙◌, subst, arith, List, ℤ, pos, negsuc, ◌*ℤ◌, unsigned_abs, w8, to_z, of_z}
+use Rattle.std.proofs.Common.{◌≡◌, ℕ, zero, suc, ◌*◌, ◌<◌, ◌≤◌, ◌^◌, refl, ap, sym, ◌∙◌, subst, arith, List, ℤ, pos, negsuc, ◌*ℤ◌, unsigned_abs, w8, w64, to_z, of_z}
 use Rattle.std.proofs.Math.IntN.{◌+ℤ◌, neg_ℤ, *ℤ_comm}
 use Rattle.std.proofs.lemmas.Int.{ints, to_z-of_z, fits_signed_from_abs}
 use Rattle.exact.proofs.IntegerLaws.{neg_mul}
@@ -9,6 +9,8 @@ use Rattle.definitions.specs.declared.Place.{Place}
 use Rattle.definitions.specs.declared.Cosine.{Cosine}
 use Rattle.definitions.specs.Vectors.{dot, place_at}
 use Rattle.dihedral.specs.Fractions.{IsFraction, square_between, opposite, normal_at, square_at}
+use Rattle.dihedral.specs.declared.pair.Pair.{Pair}
+use Rattle.dihedral.specs.Pairs.{IsPairOf, square_of}
 use Rattle.dihedral.specs.TetAngles.{edge_at}
 use Rattle.dihedral.proofs.FaceNormals.{normal-turned, normal-swapped}
 
@@ -34,24 +36,41 @@ size-negated x = omega (arith, ints)
 dot-opposites : (m : Place) → dot (opposite m) (opposite m) ≡ dot m m
 dot-opposites m = dot-opposite m (opposite m) ∙ ap neg_ℤ (dot-turned m (opposite m) ∙ dot-opposite m m) ∙ negated_twice (dot m m)
 
-abbrev square_of : ℤ → ℕ → Cosine
-square_of product den = record { sign = int_signum product; num = unsigned_abs product * unsigned_abs product; den = den }
+abbrev square_of_product : ℤ → ℕ → Cosine
+square_of_product product den = record { sign = int_signum product; num = unsigned_abs product * unsigned_abs product; den = den }
 
 -- the square from the product of two normals that point outwards
 pub square_between-opposite : (m n : Place) (d : ℤ) → d ≡ dot m n → record { sign = int_signum (neg_ℤ d); num = unsigned_abs d * unsigned_abs d; den = unsigned_abs (dot m m) * unsigned_abs (dot n n) } ≡ square_between (opposite m) n
 square_between-opposite m n d e =
     ap (λ t. record { sign = int_signum (neg_ℤ d); num = t * t; den = unsigned_abs (dot m m) * unsigned_abs (dot n n) }) (sym (size-negated d))
-    ∙ ap (λ t. square_of (neg_ℤ t) (unsigned_abs (dot m m) * unsigned_abs (dot n n))) e
-    ∙ ap (λ t. square_of t (unsigned_abs (dot m m) * unsigned_abs (dot n n))) (sym (dot-opposite m n))
-    ∙ ap (λ t. square_of (dot (opposite m) n) (unsigned_abs t * unsigned_abs (dot n n))) (sym (dot-opposites m))
+    ∙ ap (λ t. square_of_product (neg_ℤ t) (unsigned_abs (dot m m) * unsigned_abs (dot n n))) e
+    ∙ ap (λ t. square_of_product t (unsigned_abs (dot m m) * unsigned_abs (dot n n))) (sym (dot-opposite m n))
+    ∙ ap (λ t. square_of_product (dot (opposite m) n) (unsigned_abs t * unsigned_abs (dot n n))) (sym (dot-opposites m))
 
-square_of-fraction : (product : ℤ) (den : ℕ) → 1 ≤ den → IsFraction (square_of product den)
-square_of-fraction (pos zero) den h = record { sign = omega arith; zero = ((λ e. refl), (λ e. refl)); den = h }
-square_of-fraction (pos (suc n)) den h = record { sign = omega arith; zero = ((λ e. absurd (omega (arith, ints))), (λ e. absurd (omega arith))); den = h }
-square_of-fraction (negsuc n) den h = record { sign = omega arith; zero = ((λ e. absurd (omega (arith, ints))), (λ e. absurd (omega arith))); den = h }
+square_of_product-fraction : (product : ℤ) (den : ℕ) → 1 ≤ den → IsFraction (square_of_product product den)
+square_of_product-fraction (pos zero) den h = record { sign = omega arith; zero = ((λ e. refl), (λ e. refl)); den = h }
+square_of_product-fraction (pos (suc n)) den h = record { sign = omega arith; zero = ((λ e. absurd (omega (arith, ints))), (λ e. absurd (omega arith))); den = h }
+square_of_product-fraction (negsuc n) den h = record { sign = omega arith; zero = ((λ e. absurd (omega (arith, ints))), (λ e. absurd (omega arith))); den = h }
 
 pub square_between-fraction : (m n : Place) → 1 ≤ unsigned_abs (dot m m) * unsigned_abs (dot n n) → IsFraction (square_between (opposite m) n)
-square_between-fraction m n h = square_of-fraction (dot (opposite m) n) _ (subst (λ (t : ℤ). 1 ≤ unsigned_abs t * unsigned_abs (dot n n)) (sym (dot-opposites m)) h)
+square_between-fraction m n h = square_of_product-fraction (dot (opposite m) n) _ (subst (λ (t : ℤ). 1 ≤ unsigned_abs t * unsigned_abs (dot n n)) (sym (dot-opposites m)) h)
+
+-- two faces by their products
+pub pair_fraction : (d : ℤ) (den : ℕ) → 1 ≤ den → IsFraction (record { sign = int_signum (neg_ℤ d); num = unsigned_abs d * unsigned_abs d; den = den })
+pair_fraction d den h = subst (λ (t : ℕ). IsFraction (record { sign = int_signum (neg_ℤ d); num = t * t; den = den })) (size-negated d) (square_of_product-fraction (neg_ℤ d) den h)
+
+pub pair_square : (p : Pair) (m n : Place) → IsPairOf m n p → square_of p ≡ square_between (opposite m) n
+pair_square p m n h =
+    (λ i. record { sign = int_signum (neg_ℤ p.product); num = unsigned_abs p.product * unsigned_abs p.product; den = unsigned_abs (h.one i) * unsigned_abs (h.other i) }) ∙ square_between-opposite m n p.product h.product
+
+pub pair_square-turned : (p : Pair) (m n : Place) → IsPairOf n m p → square_of p ≡ square_between (opposite m) n
+pair_square-turned p m n h =
+    (λ i. record { sign = int_signum (neg_ℤ p.product); num = unsigned_abs p.product * unsigned_abs p.product; den = (mul_comm p.one p.other ∙ (λ j. unsigned_abs (h.other j) * unsigned_abs (h.one j))) i })
+    ∙ square_between-opposite m n p.product (h.product ∙ dot-turned n m)
+
+-- a number that fits, as the code holds it
+pub held : (x : ℤ) → unsigned_abs x ≤ 9 * 2 ^ 58 → to_z w64 (of_z w64 x) ≡ x
+held x h = to_z-of_z w64 x (fits_signed_from_abs w64 x (omega arith))
 
 -- the sign that the code makes
 pub sign_back : (s e : ℤ) → s ≡ int_signum e → to_z w8 (of_z w8 s) ≡ int_signum e

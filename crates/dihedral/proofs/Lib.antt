@@ -15,3 +15,4 @@ pub mod CoveredAngles
 pub mod SameShapes
 pub mod QuickBounds
 pub mod Stars
+pub mod NormalSums

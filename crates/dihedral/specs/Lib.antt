@@ -1,4 +1,5 @@
 pub mod Fractions
+pub mod Pairs
 pub mod Quick
 pub mod Shapes
 pub mod Stars

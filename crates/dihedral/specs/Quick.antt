@@ -1,4 +1,4 @@
--- Angles that are within bounds of the extremes so far, which are whole numbers of 2048ths.
+-- Angles that are within bounds of the extremes so far, which are whole numbers of 4096ths.
 use Rattle.std.specs.Prelude.{ℕ, ◌*◌, ◌<◌, ◌≤◌, Option, pos, int_lt, if◌then◌else◌}
 use Rattle.definitions.specs.declared.Cosine.{Cosine}
 use Rattle.definitions.specs.declared.Extremes.{Extremes}
@@ -14,7 +14,7 @@ bound_for b x = if int_lt (pos 0) x.sign then b.least else b.greatest
 pub record IsWithinBounds (b : Bounds) (x : Cosine) : Type 0 where
   pub some_least : 0 < b.least
   pub some_greatest : 0 < b.greatest
-  pub within : x.num * 2048 ≤ bound_for b x * x.den
+  pub within : x.num * 4096 ≤ bound_for b x * x.den
 
 -- whatever is within the bounds is within the extremes
 abbrev pub Bound : Bounds → Option Extremes → Type 0

@@ -5,9 +5,9 @@
 //! each axis, a normal of a face has coordinates below 2^29, a product of two normals is below 2^58 in size, and its
 //! square is below 2^116. A greater signed square is a smaller angle.
 //!
-//! Of one tetrahedron, `Faces` has the normals of its faces, and each angle before it is brought to lowest terms. Of many,
-//! `Remembering` first asks whether one of the same shape was taken; then `Bounded` asks whether bounds in 2048ths decide
-//! of all six angles; and where they do not, `Running` compares them with the extremes so far.
+//! Of one tetrahedron, `Faces` has the products of the normals of its faces, and each angle before it is brought to
+//! lowest terms. Of many, `Remembering` first asks whether one of the same shape was taken; then `Bounded` asks whether
+//! bounds in 4096ths decide of all six angles; and where they do not, `Running` compares them with the extremes so far.
 //!
 //! ```rust
 //! let mut angles = Remembering::new();
@@ -20,9 +20,9 @@ mod angles;
 mod bounded;
 mod bounds;
 mod extremes;
-mod face;
 mod faces;
 mod fractions;
+mod pair;
 mod remembering;
 mod running;
 mod seven;

@@ -90,14 +90,11 @@ impl Running {
         ensures { Bound result self.now }
     {
         match &self.found {
-            Some(found) => Bounds {
-                least: bound_of(found.least.cosine, 1),
-                greatest: bound_of(found.greatest.cosine, -1),
-            },
-            None => Bounds {
-                least: 0,
-                greatest: 0,
-            },
+            Some(found) => Bounds::new(
+                bound_of(found.least.cosine, 1),
+                bound_of(found.greatest.cosine, -1),
+            ),
+            None => Bounds::new(0, 0),
         }
     }
 

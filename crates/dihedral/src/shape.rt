@@ -28,10 +28,7 @@ pub(crate) fn same(p: Place, q: Place) -> bool
 fn less(a: i64, b: i64) -> i64
     ensures { unsigned_abs (a -ℤ b) ≤ 12286 → result ≡ a -ℤ b }
 {
-    match a.checked_sub(b) {
-        Some(difference) => difference,
-        None => 0,
-    }
+    a.wrapping_sub(b)
 }
 
 /// The vector from `p` to `q`, where they are near to one another.

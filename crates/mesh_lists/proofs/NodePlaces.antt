@@ -1,6 +1,6 @@
 -- Where the nodes of a vertex stand, and the list of nodes with one more.
-use Rattle.std.proofs.Common.{◌≡◌, ℕ, ◌+◌, ◌-◌, ◌*◌, ◌/◌, ◌%◌, ◌<◌, ◌≤◌, ◌==◌, arith, refl, sym, ◌∙◌, ap, Bool, true, false, List, [], ◌∷◌, ◌++◌, map, length, append_assoc, inl, inr, eq-zero-or-pos}
-use Rattle.std.specs.Prelude.{if◌then◌else◌, filter}
+use Rattle.std.proofs.Common.{◌≡◌, ℕ, ◌+◌, ◌-◌, ◌*◌, ◌/◌, ◌%◌, ◌<◌, ◌≤◌, ◌==◌, zero, suc, arith, refl, sym, subst, ◌∙◌, ap, cond, Bool, true, false, List, [], ◌∷◌, ◌++◌, map, length, append_assoc, inl, inr, eq-zero-or-pos}
+use Rattle.std.specs.Prelude.{if◌then◌else◌, filter, slice_index}
 use Rattle.std.specs.List.{range_with_len}
 use Rattle.std.proofs.lemmas.Bool.Decides.{nat_tests}
 use Rattle.std.proofs.lemmas.List.{map-append}
@@ -12,13 +12,15 @@ use Rattle.definitions.specs.Lattice.{vertex_at, vertices}
 use Rattle.definitions.specs.Values.{Field}
 use Rattle.definitions.specs.Places.{cut_place, state_place}
 use Rattle.definitions.specs.Mesh.{all_pieces, edge_cut, node_keys, node_place, occurs, state_at}
-use Rattle.mesh_lists.specs.Parts.{keys_of_ids}
+use Rattle.mesh_lists.specs.Parts.{keys_at, keys_of_ids, place_on_edge}
+use Rattle.vertex_numbers.specs.Bits.{has_bit}
+use Rattle.vertex_numbers.specs.Numbering.{Numbering, TellsUsed}
 use Rattle.node_laws.proofs.Ranks.{filter_split}
 
-key_vertex : (n dir : ℕ) → dir < 8 → (8 * n + dir) / 8 ≡ n
+pub key_vertex : (n dir : ℕ) → dir < 8 → (8 * n + dir) / 8 ≡ n
 key_vertex n dir lt = omega arith
 
-key_direction : (n dir : ℕ) → dir < 8 → (8 * n + dir) % 8 ≡ dir
+pub key_direction : (n dir : ℕ) → dir < 8 → (8 * n + dir) % 8 ≡ dir
 key_direction n dir lt = omega arith
 
 node_place_at : (f : Field) (ss : List State) (v : Vertex) (n dir : ℕ) → vertex_at f.dims n ≡ v → dir < 8 →
@@ -48,11 +50,82 @@ map_one f true k = refl
 map_one f false k = refl
 
 -- one more key
-pub keys_more : {X : Type 0} (f : ℕ → X) (p : ℕ → Bool) (a n : ℕ) (xs ys zs : List X) → ys ≡ xs ++ map f (filter p (range_with_len a n)) → zs ≡ ys ++ (if p (a + n) then f (a + n) ∷ [] else []) →
+keys_more : {X : Type 0} (f : ℕ → X) (p : ℕ → Bool) (a n : ℕ) (xs ys zs : List X) → ys ≡ xs ++ map f (filter p (range_with_len a n)) → zs ≡ ys ++ (if p (a + n) then f (a + n) ∷ [] else []) →
     zs ≡ xs ++ map f (filter p (range_with_len a (n + 1)))
 keys_more f p a n xs ys zs e g =
     g ∙ ap (λ l. l ++ (if p (a + n) then f (a + n) ∷ [] else [])) e ∙ append_assoc xs (map f (filter p (range_with_len a n))) (if p (a + n) then f (a + n) ∷ [] else [])
     ∙ ap (λ l. xs ++ l) (ap (λ l. map f (filter p (range_with_len a n)) ++ l) (sym (map_one f (p (a + n)) (a + n))) ∙ sym (map-append f (filter p (range_with_len a n)) (filter p (range_with_len (a + n) 1))) ∙ ap (map f) (sym (filter_split p a n 1)))
+
+-- ---- the nodes of a vertex by its bits: itself, and then the cuts on its edges upwards
+
+module _ {X : Type 0} where
+  -- one direction more
+  pub cuts_more : (h : ℕ → X) (p : ℕ → Bool) (dir : ℕ) (xs ys zs : List X) → 1 ≤ dir → ys ≡ xs ++ map h (filter p (range_with_len 1 (dir - 1))) → zs ≡ ys ++ (if p dir then h dir ∷ [] else []) →
+      zs ≡ xs ++ map h (filter p (range_with_len 1 (dir + 1 - 1)))
+  cuts_more h p dir xs ys zs low e g =
+      keys_more h p 1 (dir - 1) xs ys zs e (subst (λ k. zs ≡ ys ++ (if p k then h k ∷ [] else [])) (let f : dir ≡ 1 + (dir - 1) = omega arith in f) g)
+      ∙ ap (λ n. xs ++ map h (filter p (range_with_len 1 n))) (let f : dir - 1 + 1 ≡ dir + 1 - 1 = omega arith in f)
+
+  same_head : (b c : Bool) (g h : ℕ → X) (k l : ℕ) (xs ys : List ℕ) → b ≡ c → g k ≡ h l → map g xs ≡ map h ys → map g (cond b (k ∷ xs) xs) ≡ map h (cond c (l ∷ ys) ys)
+  same_head true true g h k l xs ys e f rest = λ i. f i ∷ rest i
+  same_head false false g h k l xs ys e f rest = rest
+  same_head true false g h k l xs ys e f rest = cc
+  same_head false true g h k l xs ys e f rest = cc
+
+  same_nodes : (p q : ℕ → Bool) (g h : ℕ → X) (a b n : ℕ) → ((k : ℕ) → k < n → p (a + k) ≡ q (b + k)) → ((k : ℕ) → k < n → g (a + k) ≡ h (b + k)) →
+      map g (filter p (range_with_len a n)) ≡ map h (filter q (range_with_len b n))
+  same_nodes p q g h a b zero ps gs = refl
+  same_nodes p q g h a b (suc n) ps gs =
+      same_head (p a) (q b) g h a b (filter p (range_with_len (a + 1) n)) (filter q (range_with_len (b + 1) n))
+      (ap p (none a) ∙ ps 0 (omega arith) ∙ ap q (sym (none b))) (ap g (none a) ∙ gs 0 (omega arith) ∙ ap h (sym (none b)))
+      (same_nodes p q g h (a + 1) (b + 1) n
+      (λ k lt. ap p (one a k) ∙ ps (k + 1) (omega arith) ∙ ap q (sym (one b k)))
+      (λ k lt. ap g (one a k) ∙ gs (k + 1) (omega arith) ∙ ap h (sym (one b k))))
+    where
+      none : (m : ℕ) → m ≡ m + 0
+      none m = omega arith
+
+      one : (m k : ℕ) → m + 1 + k ≡ m + (k + 1)
+      one m k = omega arith
+
+  module _ (p : ℕ → Bool) (g h : ℕ → X) (own : X) (bits id : ℕ) where
+    pub nodes_by_bits : ((k : ℕ) → k < 8 → p (8 * id + k) ≡ has_bit bits k) → g (8 * id + 0) ≡ own → ((k : ℕ) → 1 ≤ k → k < 8 → g (8 * id + k) ≡ h k) →
+        (if has_bit bits 0 then own ∷ [] else []) ++ map h (filter (has_bit bits) (range_with_len 1 7)) ≡ map g (filter p (range_with_len (8 * id) 8))
+    nodes_by_bits ps first gs =
+        ap (λ l. (if has_bit bits 0 then own ∷ [] else []) ++ l)
+        (sym (same_nodes p (has_bit bits) g h (8 * id + 1) 1 7 (λ k lt. ap p (one k) ∙ ps (1 + k) (omega arith)) (λ k lt. ap g (one k) ∙ gs (1 + k) (omega arith) (omega arith))))
+        ∙ (λ i. (if sym (ps 0 (omega arith)) i then sym first i ∷ [] else []) ++ map g (filter p (range_with_len (8 * id + 1) 7)))
+        ∙ ap (λ m. (if p m then g m ∷ [] else []) ++ map g (filter p (range_with_len (8 * id + 1) 7))) (let e : 8 * id + 0 ≡ 8 * id = omega arith in e)
+        ∙ joined (p (8 * id)) (8 * id) (filter p (range_with_len (8 * id + 1) 7))
+      where
+        one : (k : ℕ) → 8 * id + 1 + k ≡ 8 * id + (1 + k)
+        one k = omega arith
+
+        joined : (b : Bool) (k : ℕ) (ks : List ℕ) → (if b then g k ∷ [] else []) ++ map g ks ≡ map g (cond b (k ∷ ks) ks)
+        joined true k ks = refl
+        joined false k ks = refl
+
+-- no cuts
+pub no_cuts : (bits : ℕ) → bits < 2 → filter (has_bit bits) (range_with_len 1 7) ≡ []
+no_cuts zero lt = refl
+no_cuts (suc zero) lt = refl
+no_cuts (suc (suc n)) lt = absurd (omega arith)
+
+-- what a numbering says of the keys of a vertex
+pub bits_tell : (d : Dims) (ss : List State) (n : Numbering) (id k : ℕ) → TellsUsed d ss n → n.first ≤ id → id < n.first + n.len → k < 8 →
+    occurs (all_pieces d ss) (8 * id + k) ≡ has_bit (slice_index n.nodes (id - n.first)) k
+bits_tell d ss n id k used low high lt =
+    sym (used (8 * id + k) (record { low = (let e = key_vertex id k lt in omega arith); high = (let e = key_vertex id k lt in omega arith) }))
+    ∙ (λ i. has_bit (slice_index n.nodes (key_vertex id k lt i - n.first)) (key_direction id k lt i))
+
+-- the places of the nodes of a vertex
+pub places_by_bits : (f : Field) (ss : List State) (n : Numbering) (v : Vertex) (id bits : ℕ) → TellsUsed f.dims ss n → n.first ≤ id → id < n.first + n.len → vertex_at f.dims id ≡ v → bits ≡ slice_index n.nodes (id - n.first) →
+    (if has_bit bits 0 then state_place v (state_at ss id) ∷ [] else []) ++ map (place_on_edge f v) (filter (has_bit bits) (range_with_len 1 7)) ≡ map (node_place f ss) (keys_at f.dims ss id)
+places_by_bits f ss n v id bits used low high at e =
+    nodes_by_bits (occurs (all_pieces f.dims ss)) (node_place f ss) (place_on_edge f v) (state_place v (state_at ss id)) bits id
+    (λ k lt. bits_tell f.dims ss n id k used low high lt ∙ ap (λ b. has_bit b k) (sym e))
+    (vertex_place f ss v id 0 at refl)
+    (λ k some lt. edge_place f ss v id k at some lt)
 
 -- ---- the keys of the nodes of some ids
 

@@ -1,6 +1,5 @@
 -- What a numbering says of the nodes of a vertex.
-use Rattle.std.proofs.Common.{◌≡◌, ℕ, ◌+◌, ◌*◌, ◌/◌, ◌<◌, ◌≤◌, arith, refl, sym, ◌∙◌, subst, Bool, true, false, ◌||◌, cond, List, [], ◌∷◌, length}
-use Rattle.std.specs.Prelude.{filter}
+use Rattle.std.proofs.Common.{◌≡◌, ℕ, ◌+◌, ◌*◌, ◌/◌, ◌<◌, ◌≤◌, arith, sym, subst, List, length}
 use Rattle.std.specs.List.{list_any}
 use Rattle.list_words.proofs.Ranges.{any_agree}
 use Rattle.definitions.specs.declared.Dims.{Dims}
@@ -10,7 +9,7 @@ use Rattle.definitions.specs.Lattice.{InDomain, id, vertices}
 use Rattle.definitions.specs.Mesh.{all_pieces, occurs}
 use Rattle.lattice_laws.proofs.Vertices.{vertex_at-id}
 use Rattle.vertex_numbers.specs.Numbering.{Numbering, TellsUsed, used_in}
-use Rattle.mesh_lists.specs.Parts.{keys_at, keys_of_vertex}
+use Rattle.mesh_lists.specs.Parts.{keys_of_vertex}
 
 pub vertex_within : (d : Dims) (v : Vertex) (n : ℕ) → InDomain d v → n ≡ id d v → n < length (vertices d)
 vertex_within d v n inside e = subst (λ m. m < length (vertices d)) (sym e) (vertex_at-id d v inside).0
@@ -19,15 +18,3 @@ vertex_within d v n inside e = subst (λ m. m < length (vertices d)) (sym e) (ve
 pub same_used : (d : Dims) (ss : List State) (n : Numbering) (m : ℕ) → TellsUsed d ss n → n.first ≤ m → m < n.first + n.len → list_any (used_in n) (keys_of_vertex m) ≡ list_any (occurs (all_pieces d ss)) (keys_of_vertex m)
 same_used d ss n m used low high =
     any_agree (used_in n) (occurs (all_pieces d ss)) (8 * m) 8 (λ k lo hi. let q : k / 8 ≡ m = omega arith in used k (record { low = omega arith; high = omega arith }))
-
--- none of these is left
-none_left : (p : ℕ → Bool) (xs : List ℕ) → list_any p xs ≡ false → filter p xs ≡ []
-none_left p [] e = refl
-none_left p (x ∷ xs) e = go (p x) (none_left p xs) e
-  where
-    go : (b : Bool) → (list_any p xs ≡ false → filter p xs ≡ []) → (b || list_any p xs) ≡ false → cond b (x ∷ filter p xs) (filter p xs) ≡ []
-    go true rest h = cc
-    go false rest h = rest h
-
-pub no_keys : (d : Dims) (ss : List State) (n : Numbering) (m : ℕ) → TellsUsed d ss n → n.first ≤ m → m < n.first + n.len → list_any (used_in n) (keys_of_vertex m) ≡ false → keys_at d ss m ≡ []
-no_keys d ss n m used low high e = none_left (occurs (all_pieces d ss)) (keys_of_vertex m) (sym (same_used d ss n m used low high) ∙ e)

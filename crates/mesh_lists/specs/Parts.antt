@@ -3,12 +3,14 @@ use Rattle.std.specs.Prelude.{◌≡◌, ℕ, ◌*◌, List, [], ◌∷◌, filt
 use Rattle.std.specs.List.{range_with_len}
 use Rattle.definitions.specs.declared.Dims.{Dims}
 use Rattle.definitions.specs.declared.Vertex.{Vertex}
+use Rattle.definitions.specs.declared.Place.{Place}
 use Rattle.definitions.specs.declared.Sign.TheVariants.{Plus}
 use Rattle.definitions.specs.declared.State.{State}
 use Rattle.definitions.specs.Lattice.{id, vertices}
 use Rattle.definitions.specs.Values.{Field}
 use Rattle.definitions.specs.Tetrahedra.{tets_from}
-use Rattle.definitions.specs.Mesh.{Mesh, all_pieces, node_keys, node_place, number_of, occurs, tet_pieces}
+use Rattle.definitions.specs.Places.{cut_place}
+use Rattle.definitions.specs.Mesh.{Mesh, all_pieces, edge_cut, node_keys, node_place, number_of, occurs, tet_pieces}
 use Rattle.vertex_numbers.specs.declared.Later.{Later}
 use Rattle.vertex_numbers.specs.Later.{AreBelow, AreLater, HaveSign}
 use Rattle.vertex_numbers.specs.Numbering.{Numbering, number_in}
@@ -35,6 +37,10 @@ numbered_in d ss tet = numbered d ss (tet_pieces d ss tet)
 
 abbrev pub numbered_from : Dims → List State → Vertex → List (List ℕ)
 numbered_from d ss v = numbered d ss (flat_map (tet_pieces d ss) (tets_from d v))
+
+-- the place of the cut on the edge from a vertex in a direction
+abbrev pub place_on_edge : Field → Vertex → ℕ → Place
+place_on_edge f v dir = cut_place v dir (edge_cut f v dir)
 
 -- the mesh of a field with these states of all vertices
 unfoldable pub mesh_of : Field → List State → Mesh

@@ -13,6 +13,6 @@ mod whole;
 pub use angles::extremes;
 pub use build::build_mesh;
 pub use mesh::Mesh;
-pub use places::{edge_cut, node_place, places_of};
+pub use places::{edge_cut, place_on_edge, places_of};
 pub use tetrahedra::{push_tets_from, tets_of};
 pub use whole::{Whole, six_tets, whole_numbers};

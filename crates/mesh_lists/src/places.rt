@@ -1,7 +1,11 @@
-ghost use Rattle.std.specs.Prelude.{◌≡◌, ◌+◌, ◌-◌, ◌*◌, ◌/◌, ◌^◌, ◌<◌, ◌≤◌, ◌++◌, ◌∷◌, [], IfOk, OnOk, length, map, if◌then◌else◌};
+ghost use Rattle.std.specs.Prelude.{◌≡◌, ◌+◌, ◌-◌, ◌^◌, ◌<◌, ◌≤◌, ◌++◌, ◌∷◌, [], IfOk, OnOk, filter, length, map, if◌then◌else◌, unsigned_abs};
+ghost use Rattle.std.specs.List.{range_with_len};
 ghost use Rattle.definitions.specs.Lattice.{InDomain, id as id_of, vertex_at, vertices};
-ghost use Rattle.definitions.specs.Mesh.{all_pieces, edge_cut, node_place, occurs};
-ghost use Rattle.mesh_lists.specs.Parts.{keys_at, keys_of_ids};
+ghost use Rattle.definitions.specs.Mesh.{edge_cut, node_place, state_at};
+ghost use Rattle.definitions.specs.Places.{state_place};
+ghost use Rattle.definitions.specs.Values.{value};
+ghost use Rattle.mesh_lists.specs.Parts.{place_on_edge, keys_at, keys_of_ids};
+ghost use Rattle.vertex_numbers.specs.Bits.{has_bit};
 ghost use Rattle.vertex_numbers.specs.Numbering.{NumbersIds, TellsUsed};
 
 use crate::list::push;
@@ -13,59 +17,104 @@ use st_base::{NoMemory, Place, Vertex};
 use std::alloc::Global;
 use vertex_numbers::Starts;
 
-/// The number of the cut on the edge from a vertex in a direction, 0 where there is none.
+/// The number of the cut on the edge from a vertex with value `own` in a direction, 0 where there is none.
+#[inline(always)]
 #[tactic(auto, using(std::proofs::lemmas::Grind::common_steps))]
-pub fn edge_cut(field: &Field, v: Vertex, dir: Dir) -> u16
-    requires { InDomain field.now.dims v }
+fn cut_from(field: &Field, own: i64, v: Vertex, dir: Dir) -> u16
+    requires domain { InDomain field.now.dims v }
+    requires own { own ≡ value field.now v }
+    requires small { unsigned_abs own ≤ 2 ^ 40 }
     ensures { result ≡ edge_cut field.now v dir }
 {
     let Some(w) = neighbour(field.dims(), v, dir, true) else {
         return 0;
     };
-    cut(field.value(v), field.value(w)).unwrap_or(0)
+    cut(own, field.value(w)).unwrap_or(0)
 }
 
-/// The place of the node that a vertex has in a direction, in direction 0 of the vertex itself.
-pub fn node_place(field: &Field, states: &States, v: Vertex, dir: u8) -> Place
-    requires sizes { states.now.dims ≡ field.now.dims }
-    requires domain { InDomain field.now.dims v }
-    requires dir { dir < 8 }
-    ensures { result ≡ node_place field.now states.now.states (8 * id_of field.now.dims v + dir) }
+/// The number of the cut on the edge from a vertex in a direction, 0 where there is none.
+pub fn edge_cut(field: &Field, v: Vertex, dir: Dir) -> u16
+    requires { InDomain field.now.dims v }
+    ensures { result ≡ edge_cut field.now v dir }
 {
-    match Dir::new(dir) {
-        Some(dir) => cut_place(v, dir, edge_cut(field, v, dir)),
-        None => place(v, states.state(v)),
-    }
+    cut_from(field, field.value(v), v, dir)
 }
 
-/// The place of the node that a vertex has in a direction, if it has one.
-fn push_node(
-    field: &Field,
+/// The place of the cut on the edge from a vertex with value `own` in a direction, 1 to 7.
+pub fn place_on_edge(field: &Field, own: i64, v: Vertex, dir: u8) -> Place
+    requires domain { InDomain field.now.dims v }
+    requires own { own ≡ value field.now v }
+    requires small { unsigned_abs own ≤ 2 ^ 40 }
+    requires low { 1 ≤ dir }
+    requires high { dir < 8 }
+    ensures { result ≡ place_on_edge field.now v dir }
+{
+    let Some(dir) = Dir::new(dir) else {
+        unreachable!()
+    };
+    cut_place(v, dir, cut_from(field, own, v, dir))
+}
+
+/// The place of a vertex, if its bits say that it is a node.
+#[inline(always)]
+fn push_vertex(
     states: &States,
-    starts: &Starts,
     v: Vertex,
-    key: u32,
+    id: u32,
+    bits: u8,
     places: &mut Vec<Place>,
 ) -> Result<(), NoMemory>
-    requires sizes { states.now.dims ≡ field.now.dims }
-    requires used { TellsUsed field.now.dims states.now.states starts.now }
-    requires domain { InDomain field.now.dims v }
-    requires vertex { key / 8 ≡ id_of field.now.dims v }
-    requires low { starts.now.first ≤ key / 8 }
-    requires high { key / 8 < starts.now.first + starts.now.len }
+    requires domain { id < length (vertices states.now.dims) }
     ensures { OnOk result (places.new.items ≡ places.old.items
-        ++ (if occurs (all_pieces field.now.dims states.now.states) key
-        then node_place field.now states.now.states key ∷ []
-        else [])) }
+        ++ (if has_bit bits 0 then state_place v (state_at states.now.states id) ∷ [] else [])) }
 {
-    if starts.used(key) {
-        push(places, node_place(field, states, v, (key % 8) as u8))
+    if bits % 2 == 1 {
+        push(places, place(v, states.state_by_id(id)))
     } else {
         Ok(())
     }
 }
 
+/// The place of the cut in a direction, if the bits of the vertex say that there is one.
+#[inline(always)]
+fn push_cut(
+    field: &Field,
+    own: i64,
+    v: Vertex,
+    bits: u8,
+    dir: u8,
+    places: &mut Vec<Place>,
+) -> Result<(), NoMemory>
+    requires domain { InDomain field.now.dims v }
+    requires own { own ≡ value field.now v }
+    requires small { unsigned_abs own ≤ 2 ^ 40 }
+    requires low { 1 ≤ dir }
+    requires high { dir < 8 }
+    ensures { OnOk result (places.new.items ≡ places.old.items
+        ++ (if has_bit bits dir then place_on_edge field.now v dir ∷ [] else [])) }
+{
+    if (bits >> dir) % 2 == 1 {
+        push(places, place_on_edge(field, own, v, dir))
+    } else {
+        Ok(())
+    }
+}
+
+/// The places of the cuts in the directions upwards that the bits of a vertex say.
+fn push_cuts(field: &Field, v: Vertex, bits: u8, places: &mut Vec<Place>) -> Result<(), NoMemory>
+    requires domain { InDomain field.now.dims v }
+    ensures { OnOk result (places.new.items ≡ places.old.items
+        ++ map (place_on_edge field.now v) (filter (has_bit bits) (range_with_len 1 7))) }
+{
+    let own = field.value(v);
+    for dir in 1..8u8 {
+        push_cut(field, own, v, bits, dir, places)?;
+    }
+    Ok(())
+}
+
 /// The places of the nodes at a vertex.
+#[inline(always)]
 fn push_nodes(
     field: &Field,
     states: &States,
@@ -78,19 +127,17 @@ fn push_nodes(
     requires used { TellsUsed field.now.dims states.now.states starts.now }
     requires domain { InDomain field.now.dims v }
     requires id { id ≡ id_of field.now.dims v }
-    requires small { id < 2 ^ 27 }
     requires low { starts.now.first ≤ id }
     requires high { id < starts.now.first + starts.now.len }
     ensures { OnOk result (places.new.items ≡ places.old.items
         ++ map (node_place field.now states.now.states) (keys_at field.now.dims states.now.states id)) }
 {
-    if !starts.has_nodes(id) {
+    let bits = starts.bits(id);
+    push_vertex(states, v, id, bits, places)?;
+    if bits < 2 {
         return Ok(());
     }
-    for dir in 0..8u32 {
-        push_node(field, states, starts, v, 8 * id + dir, places)?;
-    }
-    Ok(())
+    push_cuts(field, v, bits, places)
 }
 
 /// The places of the nodes of the vertices of the ids from `start` on and before `end`, in the order of their keys, `v`

@@ -57,6 +57,7 @@ pub fn put_lines<D: Desk, G: Gate + Sync, R: Threads + Sync>(
             return Err(PutFault::NoMemory);
         };
         put_parts(desk, port, &parts)?;
+        crew.hand_back(parts);
     }
     Ok(reached.found)
 }

@@ -4,5 +4,6 @@ pub mod Growing
 pub mod Lines
 pub mod Pieces
 pub mod Rows
+pub mod TetLines
 pub mod WorldDecimals
 pub mod WorldValues

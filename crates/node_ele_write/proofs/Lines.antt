@@ -45,25 +45,26 @@ angle_line_made first word angle a b c d e f p q r s t =
     two_halves a b c d e f word (cosine_text angle.cosine) (decimal (first + angle.tet) ∷ codes "edge" ∷ decimal (first + slice_index angle.ends 0) ∷ decimal (first + slice_index angle.ends 1) ∷ []) (codes "tetrahedron") p q r s t
 
 -- five fields, one by one from the front
-fields_behind : (a b c d e l0 l1 l2 l3 l4 l5 : List ℕ) → l0 ≡ a → l1 ≡ l0 ++ 32 ∷ b → l2 ≡ l1 ++ 32 ∷ c → l3 ≡ l2 ++ 32 ∷ d → l4 ≡ l3 ++ 32 ∷ e → l5 ≡ l4 ++ 10 ∷ [] → l5 ≡ line (a ∷ b ∷ c ∷ d ∷ e ∷ [])
-fields_behind a b c d e l0 l1 l2 l3 l4 l5 e0 e1 e2 e3 e4 e5 =
+pub fields_behind : (l a b c d e l0 l1 l2 l3 l4 l5 : List ℕ) → l0 ≡ l ++ a → l1 ≡ l0 ++ 32 ∷ b → l2 ≡ l1 ++ 32 ∷ c → l3 ≡ l2 ++ 32 ∷ d → l4 ≡ l3 ++ 32 ∷ e → l5 ≡ l4 ++ 10 ∷ [] → l5 ≡ l ++ line (a ∷ b ∷ c ∷ d ∷ e ∷ [])
+fields_behind l a b c d e l0 l1 l2 l3 l4 l5 e0 e1 e2 e3 e4 e5 =
     e5 ∙ ap (λ t. t ++ 10 ∷ []) (e4 ∙ ap (λ t. t ++ 32 ∷ e) (e3 ∙ ap (λ t. t ++ 32 ∷ d) (e2 ∙ ap (λ t. t ++ 32 ∷ c) (e1 ∙ ap (λ t. t ++ 32 ∷ b) e0)))) ∙ joined
   where
-    joined : (((((a ++ 32 ∷ b) ++ 32 ∷ c) ++ 32 ∷ d) ++ 32 ∷ e) ++ 10 ∷ []) ≡ line (a ∷ b ∷ c ∷ d ∷ e ∷ [])
+    joined : ((((((l ++ a) ++ 32 ∷ b) ++ 32 ∷ c) ++ 32 ∷ d) ++ 32 ∷ e) ++ 10 ∷ []) ≡ l ++ line (a ∷ b ∷ c ∷ d ∷ e ∷ [])
     joined =
         let last : List ℕ = 32 ∷ (e ++ (10 ∷ [])) in
-        append_assoc (((a ++ 32 ∷ b) ++ 32 ∷ c) ++ 32 ∷ d) (32 ∷ e) (10 ∷ [])
-        ∙ append_assoc ((a ++ 32 ∷ b) ++ 32 ∷ c) (32 ∷ d) last
-        ∙ append_assoc (a ++ 32 ∷ b) (32 ∷ c) (32 ∷ (d ++ last))
-        ∙ append_assoc a (32 ∷ b) (32 ∷ (c ++ (32 ∷ (d ++ last))))
-        ∙ five_fields a b c d e
+        append_assoc ((((l ++ a) ++ 32 ∷ b) ++ 32 ∷ c) ++ 32 ∷ d) (32 ∷ e) (10 ∷ [])
+        ∙ append_assoc (((l ++ a) ++ 32 ∷ b) ++ 32 ∷ c) (32 ∷ d) last
+        ∙ append_assoc ((l ++ a) ++ 32 ∷ b) (32 ∷ c) (32 ∷ (d ++ last))
+        ∙ append_assoc (l ++ a) (32 ∷ b) (32 ∷ (c ++ (32 ∷ (d ++ last))))
+        ∙ append_assoc l a (32 ∷ (b ++ (32 ∷ (c ++ (32 ∷ (d ++ last))))))
+        ∙ ap (λ (t : List ℕ). l ++ t) (five_fields a b c d e)
 
 -- the line of a node in index units
 pub node_line_row : (step number : ℕ) (place : Place) (level : Bool) (x y z : ℤ) (l0 l1 l2 l3 l4 l5 : List ℕ) → x ≡ pos step *ℤ place.x → y ≡ pos step *ℤ place.y → z ≡ pos step *ℤ place.z → l0 ≡ decimal number →
     l1 ≡ l0 ++ 32 ∷ coordinate_text x → l2 ≡ l1 ++ 32 ∷ coordinate_text y → l3 ≡ l2 ++ 32 ∷ coordinate_text z → l4 ≡ l3 ++ 32 ∷ marker_text level → l5 ≡ l4 ++ 10 ∷ [] →
     l5 ≡ node_line (record { step = step; world = None }) (number, record { place = place; level = level })
 node_line_row step number place level x y z l0 l1 l2 l3 l4 l5 ex ey ez e0 e1 e2 e3 e4 e5 =
-    fields_behind (decimal number) (coordinate_text (pos step *ℤ place.x)) (coordinate_text (pos step *ℤ place.y)) (coordinate_text (pos step *ℤ place.z)) (marker_text level) l0 l1 l2 l3 l4 l5 e0
+    fields_behind [] (decimal number) (coordinate_text (pos step *ℤ place.x)) (coordinate_text (pos step *ℤ place.y)) (coordinate_text (pos step *ℤ place.z)) (marker_text level) l0 l1 l2 l3 l4 l5 e0
     (e1 ∙ ap (λ (v : ℤ). l0 ++ 32 ∷ coordinate_text v) ex) (e2 ∙ ap (λ (v : ℤ). l1 ++ 32 ∷ coordinate_text v) ey) (e3 ∙ ap (λ (v : ℤ). l2 ++ 32 ∷ coordinate_text v) ez) e4 e5
 
 -- the line of a node in the volume's own units
@@ -75,4 +76,4 @@ own_line_row (x ∷ []) other step number place level l0 l1 l2 l3 l4 l5 are e0 e
 own_line_row (x ∷ (y ∷ [])) other step number place level l0 l1 l2 l3 l4 l5 are e0 e1 e2 e3 e4 e5 = elim are [ ]
 own_line_row (x ∷ (y ∷ (z ∷ (_ ∷ _)))) other step number place level l0 l1 l2 l3 l4 l5 are e0 e1 e2 e3 e4 e5 = elim are [ ]
 own_line_row (x ∷ y ∷ z ∷ []) other step number place level l0 l1 l2 l3 l4 l5 are e0 e1 e2 e3 e4 e5 =
-    fields_behind (decimal number) (world_text (world_value x step place.x)) (world_text (world_value y step place.y)) (world_text (world_value z step place.z)) (marker_text level) l0 l1 l2 l3 l4 l5 e0 e1 e2 e3 e4 e5
+    fields_behind [] (decimal number) (world_text (world_value x step place.x)) (world_text (world_value y step place.y)) (world_text (world_value z step place.z)) (marker_text level) l0 l1 l2 l3 l4 l5 e0 e1 e2 e3 e4 e5

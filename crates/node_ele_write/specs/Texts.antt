@@ -1,5 +1,5 @@
 -- Numbers as texts behind a space.
-use Rattle.std.specs.Prelude.{◌≡◌, ℕ, ◌*◌, ◌^◌, ◌<◌, ◌≤◌, List, ◌∷◌, ◌++◌, decimal, length, take, ℤ}
+use Rattle.std.specs.Prelude.{◌≡◌, ℕ, ◌+◌, ◌*◌, ◌^◌, ◌<◌, ◌≤◌, List, [], ◌∷◌, ◌++◌, decimal, length, slice_index, take, ℤ}
 use Rattle.definitions.specs.declared.Place.{Place}
 use Rattle.formats.specs.declared.Frame.{Frame}
 use Rattle.mesh_texts.specs.Frames.{frame_text, world_text}
@@ -9,16 +9,25 @@ use Rattle.mesh_texts.specs.Coordinates.{padded_decimal}
 abbrev pub spaced : ℕ → List ℕ
 spaced n = 32 ∷ decimal n
 
--- a number with bytes, of which the first `len` are its text
+-- a number with twelve bytes: its text, and in the last one how long this is
 pub record NumberText : Type 0 where
   pub bytes : List ℕ
-  pub len : ℕ
   pub number : ℕ
 
 pub record IsText (t : NumberText) : Type 0 where
-  pub text : take t.len t.bytes ≡ spaced t.number
-  pub count : t.len ≡ length (spaced t.number)
-  pub few : t.len ≤ 11
+  pub text : take (length (spaced t.number)) t.bytes ≡ spaced t.number
+  pub count : slice_index t.bytes 11 ≡ length (spaced t.number)
+  pub few : length (spaced t.number) ≤ 11
+
+-- a number with bytes, of which the first `len` are the digits of it before the last of a number of 64 bits
+pub record FrontText : Type 0 where
+  pub bytes : List ℕ
+  pub len : ℕ
+  pub tens : ℕ
+
+pub record IsFront (f : FrontText) : Type 0 where
+  pub text : (digit : ℕ) → digit < 10 → 10 * f.tens + digit < 2 ^ 64 → decimal (10 * f.tens + digit) ≡ take f.len f.bytes ++ (48 + digit) ∷ []
+  pub few : f.len ≤ 19
 
 -- the bytes of a row, and where they end in its buffer
 pub record RowText : Type 0 where

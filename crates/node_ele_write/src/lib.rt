@@ -1,17 +1,18 @@
 //! The lines of the .node and the .ele text of a mesh, the report of how large it is and of its angles, and texts to a
 //! port of a desk.
 //!
-//! A [`Pen`] makes a line in a buffer that is used again, from texts of numbers and fractions that are kept.
+//! A [`Pen`] makes lines in buffers that are used again, from texts of numbers and fractions that are kept.
 //!
 //! ```rust
 //! let mut pen = Pen::new(alloc)?;
-//! pen.ele_line(&mut out, 23, [7, 12, 14, 13])?;
+//! pen.ele_lines(&mut out, 23, 0, &[[7, 12, 14, 13]])?;
 //! assert_eq!(rt; out.as_slice(), b"23 7 12 14 13\n".as_slice());
 //! ```
 #![tactic(auto)]
 
 mod fault;
 mod fractions;
+mod front;
 mod line;
 mod node;
 mod own_units;
@@ -19,6 +20,7 @@ mod pen;
 mod put;
 mod report;
 mod row;
+mod tet_lines;
 mod text;
 mod texts;
 mod world;

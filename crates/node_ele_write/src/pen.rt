@@ -1,15 +1,17 @@
-ghost use Rattle.std.specs.Prelude.{◌≡◌, ◌+◌, ◌*◌, ◌^◌, ◌≤◌, ◌<◌, ◌++◌, ◌∷◌, Some, None, pos, ◌*ℤ◌, ◌≤ℤ◌, unsigned_abs, OnOk, OnErr};
+ghost use Rattle.std.specs.Prelude.{◌≡◌, ◌+◌, ◌*◌, ◌^◌, ◌≤◌, ◌<◌, ◌++◌, ◌∷◌, Some, None, pos, ◌*ℤ◌, ◌≤ℤ◌, unsigned_abs, All, length, map, OnOk, OnErr};
 ghost use Rattle.formats.specs.Frames.{AreAxes, IsAxis};
 ghost use Rattle.mesh_texts.specs.Coordinates.{coordinate_text};
 ghost use Rattle.mesh_texts.specs.Frames.{world_text, world_value as world_value_lem};
-ghost use Rattle.mesh_texts.specs.Lines.{ele_line as ele_line_lem, marker_text, node_line as node_line_lem};
+ghost use Rattle.mesh_texts.specs.Lines.{ele_lines as ele_lines_lem, marker_text, node_line as node_line_lem, renumbered};
 ghost use Rattle.node_ele_write.specs.Printable.{IsPrintable};
 ghost use Rattle.node_ele_write.specs.Texts.{spaced};
 
 use crate::fractions::Fractions;
+use crate::front::Front;
 use crate::line::Line;
 use crate::own_units::world_value;
 use crate::row::Row;
+use crate::tet_lines::{LINES, append, make_room, put_line};
 use crate::text::node_line;
 use crate::texts::Texts;
 use crate::world_texts::{PLACES, WorldTexts};
@@ -22,6 +24,8 @@ pub struct Pen {
     row: Row,
     line: Line,
     texts: Texts,
+    front: Front,
+    lines: [u8; LINES],
     worlds: WorldTexts,
     fractions: Fractions,
 }
@@ -49,7 +53,7 @@ fn place_of(number: u64, coordinate: i64) -> usize
 }
 
 impl Pen {
-    /// A pen. It takes one and two thirds mebibytes.
+    /// A pen. It takes two mebibytes.
     pub fn new(alloc: Global) -> Result<Pen, NoMemory> {
         let Ok(texts) = Texts::new(alloc) else {
             return Err(NoMemory);
@@ -64,6 +68,8 @@ impl Pen {
             row: Row::new(),
             line: Line::new(),
             texts,
+            front: Front::new(),
+            lines: [0; LINES],
             worlds,
             fractions,
         })
@@ -76,7 +82,8 @@ impl Pen {
         ensures text { self.new.row.text ≡ self.old.row.text ++ spaced number }
         ensures end { self.new.row.end ≤ self.old.row.end + 11 }
     {
-        self.row.text(self.texts.text(number));
+        let text = self.texts.text(number);
+        self.row.text(&text);
     }
 
     /// Puts the text of a coordinate that is not below zero behind the row, after a space.
@@ -195,23 +202,32 @@ impl Pen {
         }
     }
 
-    /// Appends the line of a tetrahedron: its number, and its nodes.
-    pub fn ele_line(
+    /// Appends the lines of tetrahedra, which are numbered from `number` on, and their nodes from `first` on.
+    /// Where memory runs out, the first lines may stand there.
+    pub fn ele_lines(
         &mut self,
         out: &mut Vec<u8>,
         number: u64,
-        nodes: [u32; 4],
+        first: u32,
+        tets: &[[u32; 4]],
     ) -> Result<(), NoMemory>
-        ensures text { OnOk result (out.new.items ≡ out.old.items ++ ele_line_lem (number, nodes)) }
-        ensures unchanged { OnErr result (out.new.items ≡ out.old.items) }
+        requires numbers { number + length tets.now < 2 ^ 64 }
+        requires nodes { All (All (λ n. first + n < 2 ^ 32)) tets.now }
+        ensures { OnOk result (out.new.items ≡ out.old.items ++ ele_lines_lem number (map (renumbered first) tets.now)) }
     {
-        let [a, b, c, d] = nodes;
-        self.row.begin(number);
-        self.text(a);
-        self.text(b);
-        self.text(c);
-        self.text(d);
-        self.row.byte(b'\n');
-        self.row.append_to(out)
+        let mut end = 0;
+        for n in 0..tets.len() {
+            let at = make_room(out, &self.lines, end)?;
+            end = put_line(
+                &mut self.lines,
+                at,
+                &mut self.front,
+                &mut self.texts,
+                number + n as u64,
+                first,
+                tets[n],
+            );
+        }
+        append(out, &self.lines, end)
     }
 }

@@ -78,8 +78,7 @@ impl Row {
         ensures text { self.new.text ≡ self.old.text ++ spaced text.now.number }
         ensures end { self.new.end ≤ self.old.end + 11 }
     {
-        self.bytes[self.end..self.end + WIDTH].copy_from_slice(text.bytes());
-        self.end += text.len();
+        self.end = text.put(&mut self.bytes, self.end);
     }
 
     /// Puts a fraction at the end.

@@ -1,21 +1,24 @@
-ghost use Rattle.std.specs.Prelude.{◌≡◌, ◌+◌, ◌≤◌, ◌<◌, ◌∷◌, ◌++◌, length, decimal, take, IfOk};
+ghost use Rattle.std.specs.Prelude.{◌≡◌, ◌+◌, ◌≤◌, ◌++◌, length, take};
+ghost use Rattle.node_ele_write.specs.Texts.{spaced};
 
 use itoa::write_digits;
 use st_base::NoMemory;
 use std::alloc::Global;
 use std::marker::Model;
 
-/// The bytes of a text: a space and at most ten digits, and one more, which makes it two machine words.
+/// A space and at most ten digits, and a byte that says how many bytes these are.
 pub const WIDTH: usize = 12;
 
-/// How many texts are held.
-const SLOTS: u32 = 1 << 15;
+/// Where that byte stands.
+const LENGTH: usize = 11;
 
-/// A number as text behind a space: the first `len` of the bytes, at most 11, are the space and the digits of `number`.
+/// How many texts are held.
+const SLOTS: u32 = 1 << 16;
+
+/// A number as text behind a space, with its length, in sixteen bytes.
 #[derive(Clone, Copy)]
 pub struct Text {
     bytes: [u8; WIDTH],
-    len: u8,
     number: u32,
 }
 
@@ -24,60 +27,45 @@ impl Model for Text {
 
     ghost Value = { NumberText };
 
-    ghost view = { λ t. record { bytes = t.bytes; len = t.len; number = t.number } };
+    ghost view = { λ t. record { bytes = t.bytes; number = t.number } };
 
-    ghost invariant = { λ t. IsText (record { bytes = t.bytes; len = t.len; number = t.number }) };
+    ghost invariant = { λ t. IsText (record { bytes = t.bytes; number = t.number }) };
 
-    ghost inverse = { λ v. record { bytes = v.bytes; len = v.len; number = v.number } };
-}
-
-/// How many digits a number has.
-fn digits(number: u32) -> usize
-    ensures value { result ≡ length (decimal number) }
-    ensures few { result ≤ 10 }
-{
-    let mut scratch = [0u8; 20];
-    20 - write_digits(u64::from(number), &mut scratch, 20)
+    ghost inverse = { λ v. record { bytes = v.bytes; number = v.number } };
 }
 
 impl Text {
-    ghost use Rattle.node_ele_write.specs.Texts.{IsText};
-
     /// The text of a number.
     pub fn new(number: u32) -> Text
         ensures { result.number ≡ number }
     {
-        let len = 1 + digits(number);
-        let mut bytes = [b' '; WIDTH];
-        let _start = write_digits(u64::from(number), &mut bytes, len);
-        Text {
-            bytes,
-            len: len as u8,
-            number,
-        }
+        let mut scratch = [0; LENGTH + WIDTH];
+        let start = write_digits(u64::from(number), &mut scratch, LENGTH) - 1;
+        scratch[start] = b' ';
+        let mut bytes = [0; WIDTH];
+        bytes.copy_from_slice(&scratch[start..start + WIDTH]);
+        bytes[LENGTH] = (LENGTH - start) as u8;
+        Text { bytes, number }
     }
 
     /// The number.
+    #[inline(always)]
     pub fn number(&self) -> u32
         ensures { result ≡ self.now.number }
     {
         self.number
     }
 
-    /// How many bytes the text has.
-    pub fn len(&self) -> usize
-        ensures len { result ≡ self.now.len }
-        ensures text { IsText self.now }
-    {
-        self.len as usize
-    }
-
-    /// The bytes, of which the first are the text.
+    /// Puts the text into a buffer from `end` on, and answers where it ends.
     #[inline(always)]
-    pub fn bytes(&self) -> &[u8; WIDTH]
-        ensures { result.now ≡ self.now.bytes }
+    pub fn put(&self, bytes: &mut [u8], end: usize) -> usize
+        requires { end + WIDTH ≤ length bytes.old }
+        ensures text { take result bytes.new ≡ take end bytes.old ++ spaced self.now.number }
+        ensures grows { end ≤ result }
+        ensures end { result ≤ end + 11 }
     {
-        &self.bytes
+        bytes[end..end + WIDTH].copy_from_slice(&self.bytes);
+        end + self.bytes[LENGTH] as usize
     }
 }
 
@@ -111,13 +99,13 @@ impl Texts {
 
     /// The text of a number.
     #[inline(always)]
-    pub fn text(&mut self, number: u32) -> &Text
-        ensures { result.now.number ≡ number }
+    pub fn text(&mut self, number: u32) -> Text
+        ensures { result.number ≡ number }
     {
         let at = (number % SLOTS) as usize;
         if self.slots[at].number() != number {
             self.slots[at] = Text::new(number);
         }
-        &self.slots[at]
+        self.slots[at]
     }
 }

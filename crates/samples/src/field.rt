@@ -3,9 +3,12 @@ ghost use Rattle.definitions.specs.Lattice.{InDomain, IsDims};
 ghost use Rattle.definitions.specs.Values.{Field as FieldValue, IsField, difference, field_of, corner_difference, cube_sum, value, sign_of, nearest, is_inside};
 ghost use Rattle.samples.specs.Corners.{IsCorner, IsCube, corner_vertex, centre_vertex, half_units};
 ghost use Rattle.samples.specs.Rows.{row_start, is_row_inside, difference_along, edge_sum, side_sum};
+ghost use Rattle.samples.specs.SignWords.{TellCorners};
+ghost use Rattle.samples.specs.Stars.{IsCornerInside, place};
 
 use crate::level::Level;
 use crate::sign::sign_of;
+use crate::sign_words::{SignWords, signs_from, words_of};
 use st_base::{Dims, NoMemory, Samples, Sign, Vertex, Volume};
 use std::alloc::Global;
 use std::marker::Model;
@@ -19,23 +22,26 @@ use std::marker::Model;
 /// difference, and at the centre of a cube the sum over its eight corners.
 ///
 /// The sizes are at least 1 and within the limit, and there is one difference for each sample, x fastest, each below
-/// 2^34 in size.
+/// 2^34 in size. The signs of the differences are kept, too, 64 in each element of `signs`.
 #[derive(Drop)]
 pub struct Field {
     dims: Dims,
     samples: Samples,
     level: Level,
     below: bool,
+    signs: Vec<SignWords>,
 }
 
 impl Model for Field {
-    ghost use Rattle.definitions.specs.Values.{Field as FieldValue, IsField, field_of};
+    ghost use Rattle.std.specs.Prelude.{map};
+    ghost use Rattle.definitions.specs.Values.{Field as FieldValue, IsField, difference, field_of};
+    ghost use Rattle.samples.specs.SignWords.{AreWordsOf};
 
     ghost Value = { FieldValue };
 
     ghost view = { λ f. field_of f.dims f.samples.numbers f.level f.below };
 
-    ghost invariant = { λ f. IsField (field_of f.dims f.samples.numbers f.level f.below) };
+    ghost invariant = { λ f. IsField (field_of f.dims f.samples.numbers f.level f.below) × AreWordsOf (map (difference f.level f.below) f.samples.numbers) f.signs.items };
 }
 
 /// What is the same in all of a row of corners along x: where its nearest samples start, and whether
@@ -54,29 +60,38 @@ impl Field {
     /// let field = Field::new(alloc, &volume, level, false)?;
     /// let value = field.value(Vertex { h: 2, y: 2, x: 2 });
     /// ```
-    #[tactic(auto, using(crate::proofs::Fields::field_of_parts))]
+    #[tactic(auto, using(crate::proofs::Fields::field_of_parts, crate::proofs::Fields::few_samples))]
     pub fn new(alloc: Global, volume: &Volume, level: Level, below: bool) -> Result<Field, NoMemory>
         ensures { IfOk result (λ field. field ≡ field_of volume.now.dims volume.now.samples level below) }
     {
+        let signs = words_of(alloc, volume.samples(), level, below)?;
         Ok(Field {
             dims: volume.dims(),
             samples: volume.samples().copy(alloc)?,
             level,
             below,
+            signs,
         })
     }
 
     /// The same of a volume that is given up: its samples are taken over, and no memory is asked for.
-    #[tactic(auto, using(crate::proofs::Fields::field_of_parts))]
-    pub fn of_volume(volume: Volume, level: Level, below: bool) -> Field
-        ensures { result ≡ field_of volume.dims volume.samples level below }
+    #[tactic(auto, using(crate::proofs::Fields::field_of_parts, crate::proofs::Fields::few_samples))]
+    pub fn of_volume(
+        alloc: Global,
+        volume: Volume,
+        level: Level,
+        below: bool,
+    ) -> Result<Field, NoMemory>
+        ensures { IfOk result (λ field. field ≡ field_of volume.dims volume.samples level below) }
     {
-        Field {
+        let signs = words_of(alloc, volume.samples(), level, below)?;
+        Ok(Field {
             dims: volume.dims(),
             samples: volume.into_samples(),
             level,
             below,
-        }
+            signs,
+        })
     }
 
     /// The sizes of the image.
@@ -96,10 +111,12 @@ impl Field {
         difference(self.level, self.below, self.samples.get(n))
     }
 
+    #[tactic(auto, using(crate::proofs::Fields::few_differences))]
     fn row(&self, j: u32, k: u32) -> Row
         ensures start { result.start ≡ row_start self.now.dims j k }
         ensures inside { result.inside ≡ is_row_inside self.now.dims j k }
         ensures room { result.start + self.now.dims.nx ≤ length self.now.differences }
+        ensures few { length self.now.differences ≤ 2 ^ 26 }
     {
         let Dims { nx, ny, nz } = self.dims;
         let row = nearest(nz, k) as usize * ny as usize + nearest(ny, j) as usize;
@@ -133,75 +150,37 @@ impl Field {
         self.difference_along(self.row(j, k), i)
     }
 
-    /// The difference at a corner of the image, counted from the padding corner: `i` from 1 to `nx`, and so on.
-    /// It is one read.
-    #[inline]
+    /// The difference at a corner of the image, by the place of its sample.
+    #[inline(always)]
     #[tactic(auto, unfolding(definitions::specs::Values::corner_difference))]
-    pub fn difference_inside(&self, i: u32, j: u32, k: u32) -> i64
-        requires i_low { 1 ≤ i }
-        requires j_low { 1 ≤ j }
-        requires k_low { 1 ≤ k }
-        requires i_high { i ≤ self.now.dims.nx }
-        requires j_high { j ≤ self.now.dims.ny }
-        requires k_high { k ≤ self.now.dims.nz }
-        ensures value { result ≡ corner_difference self.now i j k }
+    pub(crate) fn difference_at(&self, n: usize, _i: u32, _j: u32, _k: u32) -> i64
+        requires inside { IsCornerInside self.now.dims _i _j _k }
+        requires place { n ≡ place self.now.dims _i _j _k }
+        ensures value { result ≡ corner_difference self.now _i _j _k }
         ensures small { unsigned_abs result < 2 ^ 34 }
         ensures sizes { IsDims self.now.dims }
     {
-        let Dims { nx, ny, .. } = self.dims;
-        let row = (k as usize - 1) * ny as usize + (j as usize - 1);
-        self.number(row * nx as usize + (i as usize - 1))
+        let _ = &self.dims;
+        self.number(n)
     }
 
+    /// The signs of the corners of row `(j, k)`, from the one before corner `i` on.
     #[inline(always)]
-    #[tactic(auto, using(lattice_counts::proofs::Sizes::ny_small))]
-    fn edge_inside(&self, i: u32, j: u32, k: u32) -> i64
-        requires i_low { 1 ≤ i }
-        requires j_low { 1 ≤ j }
-        requires k_low { 1 ≤ k }
-        requires i_high { i ≤ self.now.dims.nx }
-        requires j_high { j < self.now.dims.ny }
-        requires k_high { k ≤ self.now.dims.nz }
-        ensures value { result ≡ edge_sum self.now i j k }
-        ensures small { unsigned_abs result < 2 ^ 35 }
-        ensures sizes { IsDims self.now.dims }
+    pub fn signs_along(&self, i: u32, j: u32, k: u32) -> SignWords
+        requires { i ≤ self.now.dims.nx + 2 }
+        ensures { TellCorners self.now i j k result }
     {
-        let near = self.difference_inside(i, j, k);
-        near + self.difference_inside(i, j + 1, k)
-    }
-
-    #[inline(always)]
-    #[tactic(auto, using(lattice_counts::proofs::Sizes::nz_small))]
-    fn side_inside(&self, i: u32, j: u32, k: u32) -> i64
-        requires i_low { 1 ≤ i }
-        requires j_low { 1 ≤ j }
-        requires k_low { 1 ≤ k }
-        requires i_high { i ≤ self.now.dims.nx }
-        requires j_high { j < self.now.dims.ny }
-        requires k_high { k < self.now.dims.nz }
-        ensures value { result ≡ side_sum self.now i j k }
-        ensures small { unsigned_abs result < 2 ^ 36 }
-        ensures sizes { IsDims self.now.dims }
-    {
-        let near = self.edge_inside(i, j, k);
-        near + self.edge_inside(i, j, k + 1)
-    }
-
-    /// The same as `cube`, where the eight corners are of the image. It is eight reads.
-    #[inline(always)]
-    #[tactic(auto, using(lattice_counts::proofs::Sizes::nx_small, crate::proofs::ValuesAt::cube_by_sides))]
-    pub fn cube_inside(&self, i: u32, j: u32, k: u32) -> i64
-        requires i_low { 1 ≤ i }
-        requires j_low { 1 ≤ j }
-        requires k_low { 1 ≤ k }
-        requires i_high { i < self.now.dims.nx }
-        requires j_high { j < self.now.dims.ny }
-        requires k_high { k < self.now.dims.nz }
-        ensures value { result ≡ cube_sum self.now i j k }
-        ensures small { unsigned_abs result < 2 ^ 37 }
-    {
-        let near = self.side_inside(i, j, k);
-        near + self.side_inside(i + 1, j, k)
+        let row = self.row(j, k);
+        if row.inside {
+            let first = row.start + (i as usize).saturating_sub(2);
+            signs_from(&self.signs, first).padded(2 - i.min(2), self.dims.nx + 2 - i)
+        } else {
+            SignWords {
+                plus: 0,
+                zero: 0,
+                minus: u64::MAX,
+            }
+        }
     }
 
     #[inline]
@@ -291,7 +270,7 @@ impl Field {
 }
 
 #[inline(always)]
-fn difference(level: Level, below: bool, sample: i64) -> i64
+pub(crate) fn difference(level: Level, below: bool, sample: i64) -> i64
     requires { unsigned_abs sample ≤ 2 ^ 32 }
     ensures value { result ≡ difference level below sample }
     ensures small { unsigned_abs result < 2 ^ 34 }

@@ -1,4 +1,4 @@
-ghost use Rattle.std.specs.Prelude.{◌≡◌};
+ghost use Rattle.std.specs.Prelude.{◌≡◌, true};
 ghost use Rattle.definitions.specs.Values.{sign_of};
 
 use st_base::Sign;
@@ -14,5 +14,17 @@ pub fn sign_of(value: i64) -> Sign
         Sign::Zero
     } else {
         Sign::Minus
+    }
+}
+
+/// Whether it is this one.
+#[inline(always)]
+pub fn has_sign(value: i64, sign: Sign) -> bool
+    ensures { result ≡ true → sign_of value ≡ sign }
+{
+    match sign {
+        Sign::Plus => value > 0,
+        Sign::Zero => value == 0,
+        Sign::Minus => value < 0,
     }
 }

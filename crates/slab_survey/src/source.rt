@@ -8,8 +8,8 @@ ghost use Rattle.definitions.specs.States.{IsState, state_of};
 ghost use Rattle.list_words.specs.Words.{has};
 ghost use Rattle.layer_cells.specs.Seats.{CellsValue, CellSeatValue};
 
-use bcc_lattice::id;
-use definitions::State;
+use bcc_lattice::{id, sign_of};
+use definitions::{Sign, State};
 use layer_cells::{CellSeat, Cells};
 use st_base::{Dims, Vertex};
 use vertex_numbers::StateSource;
@@ -49,5 +49,10 @@ impl<'a> StateSource for KnownLayers<'a> {
 
     fn state(&mut self, v: Vertex) -> State {
         self.cells.read_id(self.seat, v, id(self.dims, v))
+    }
+
+    #[inline(always)]
+    fn sign_by_id(&mut self, _v: Vertex, id: u32) -> Sign {
+        sign_of(self.cells.read_id(self.seat, _v, id))
     }
 }

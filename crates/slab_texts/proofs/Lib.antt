@@ -1,6 +1,7 @@
 pub mod Adding
 pub mod NodeLines
 pub mod Spans
+pub mod TakenAngles
 pub mod Numbers
 pub mod Places
 pub mod Walks

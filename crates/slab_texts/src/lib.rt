@@ -8,8 +8,10 @@ mod node_lines;
 mod nodes;
 mod tetrahedra;
 mod text;
+mod tools;
 
 pub use laws::{angles_are_fractions, slabs_join, spans_are_all, spans_join};
-pub use lines::{TetLines, Tools};
+pub use lines::TetLines;
 pub use nodes::Nodes;
 pub use text::{TetText, node_text, tet_extremes, tet_text};
+pub use tools::Tools;

@@ -1,10 +1,12 @@
-ghost use Rattle.std.specs.Prelude.{◌≡◌, ◌+◌, ◌<◌, ◌≤◌, ◌^◌, ◌++◌, ◌∷◌, [], List, All, OnOk, length, map};
+ghost use Rattle.std.specs.Prelude.{◌≡◌, ◌+◌, ◌<◌, ◌≤◌, ◌^◌, ◌++◌, ◌∷◌, [], List, All, OnOk, flat_map, length, map};
+ghost use Rattle.std.specs.List.{enumerate_from};
+ghost use Rattle.definitions.specs.declared.Extreme.{Extreme};
 ghost use Rattle.definitions.specs.declared.Place.{Place};
+ghost use Rattle.definitions.specs.Angles.{angles_of, extremes_of};
 ghost use Rattle.definitions.specs.Soundness.{corner_places};
 ghost use Rattle.definitions.specs.Vectors.{place_at};
 ghost use Rattle.slab_texts.specs.Nodes.{AreInRow};
 ghost use Rattle.dihedral.specs.Shapes.{Covers};
-ghost use Rattle.mesh_texts.specs.Lines.{renumbered as renumbered_lem};
 ghost use Rattle.mesh_lists.specs.Parts.{whole_tets};
 ghost use Rattle.slab_texts.specs.Texts.{Adds, AreAmong, AreMeasuredIn, IsAmong, later_places, lines_if};
 
@@ -13,24 +15,6 @@ use dihedral::{Remembering, Seven};
 use mesh_lists::{Whole, six_tets};
 use node_ele_write::Pen;
 use st_base::{NoMemory, Place};
-use std::alloc::Global;
-
-/// What lines are made with, one slab after another: a pen, and room for the tetrahedra at a vertex.
-#[derive(Drop)]
-pub struct Tools {
-    pub pen: Pen,
-    pub tets: Vec<[u32; 4]>,
-}
-
-impl Tools {
-    /// Tools, which take two thirds of a mebibyte.
-    pub fn new(alloc: Global) -> Result<Tools, NoMemory> {
-        Ok(Tools {
-            pen: Pen::new(alloc)?,
-            tets: Vec::new(alloc),
-        })
-    }
-}
 
 /// Lines of tetrahedra, whether they are written or only counted, the number from which nodes and tetrahedra are
 /// numbered in them, the number of the next one from 0, and the extremes of the angles so far.
@@ -65,22 +49,11 @@ fn places_of(nodes: &Nodes, numbers: [u32; 4]) -> [Place; 4]
     ]
 }
 
-// The numbers of nodes where these are numbered from `first` on.
-#[inline(always)]
-fn renumbered(numbers: [u32; 4], first: u32) -> [u32; 4]
-    requires first { first < 2 ^ 8 }
-    requires small { All (λ n. n < 2 ^ 31) numbers }
-    ensures { result ≡ renumbered_lem first numbers }
-{
-    let [a, b, c, d] = numbers;
-    [first + a, first + b, first + c, first + d]
-}
-
-// The line of the next tetrahedron, where lines are written.
-fn push_line(numbers: [u32; 4], pen: &mut Pen, out: &mut TetLines) -> Result<(), NoMemory>
-    requires small { All (λ n. n < 2 ^ 31) numbers }
-    requires room { out.old.number < 2 ^ 63 }
-    ensures text { OnOk result (out.new.text.items ≡ out.old.text.items ++ lines_if out.old.writes out.old.numbering out.old.number (numbers ∷ [])) }
+// The lines of the next tetrahedra, where lines are written.
+fn push_text(tets: &[[u32; 4]], pen: &mut Pen, out: &mut TetLines) -> Result<(), NoMemory>
+    requires small { All (All (λ n. n < 2 ^ 31)) tets.now }
+    requires room { out.old.number + length tets.now < 2 ^ 63 }
+    ensures text { OnOk result (out.new.text.items ≡ out.old.text.items ++ lines_if out.old.writes out.old.numbering out.old.number tets.now) }
     ensures writes { out.new.writes ≡ out.old.writes }
     ensures numbering { out.new.numbering ≡ out.old.numbering }
     ensures number { out.new.number ≡ out.old.number }
@@ -89,68 +62,50 @@ fn push_line(numbers: [u32; 4], pen: &mut Pen, out: &mut TetLines) -> Result<(),
     if out.writes {
         let first = out.numbering;
         let number = u64::from(first) + out.number;
-        pen.ele_line(&mut out.text, number, renumbered(numbers, u32::from(first)))
+        pen.ele_lines(&mut out.text, number, u32::from(first), tets)
     } else {
         Ok(())
     }
 }
 
-// The next tetrahedron, whose nodes have these numbers.
-fn push_tet(
-    nodes: &Nodes,
-    numbers: [u32; 4],
-    pen: &mut Pen,
-    out: &mut TetLines,
-) -> Result<(), NoMemory>
-    requires among { All (IsAmong nodes.now) numbers }
-    requires measured { AreMeasuredIn nodes.now (numbers ∷ []) }
-    requires room { out.old.number + 1 < 2 ^ 63 }
-    ensures adds { OnOk result (Adds nodes.now out.old (numbers ∷ []) out.new) }
-    ensures few { out.new.number ≤ out.old.number + 1 }
-{
-    let tet = places_of(nodes, numbers);
-    push_line(numbers, pen, out)?;
-    out.angles.take(tet, out.number, numbers);
-    out.number += 1;
-    Ok(())
-}
-
-// The next tetrahedron, whose angles are within the extremes so far.
-fn push_known_tet(
-    _nodes: &Nodes,
-    numbers: [u32; 4],
-    pen: &mut Pen,
-    out: &mut TetLines,
-) -> Result<(), NoMemory>
-    requires among { All (IsAmong _nodes.now) numbers }
-    requires known { (all : List Place) → AreInRow all _nodes.now.first _nodes.now.places.items → Covers out.old.angles (corner_places all numbers) }
-    requires room { out.old.number + 1 < 2 ^ 63 }
-    ensures adds { OnOk result (Adds _nodes.now out.old (numbers ∷ []) out.new) }
-    ensures few { out.new.number ≤ out.old.number + 1 }
-    ensures angles { out.new.angles ≡ out.old.angles }
-{
-    push_line(numbers, pen, out)?;
-    out.number += 1;
-    Ok(())
-}
-
-// Tetrahedra whose angles are.
+// Tetrahedra whose angles are within the extremes so far.
 fn push_known(
-    nodes: &Nodes,
+    _nodes: &Nodes,
     tets: &[[u32; 4]],
     pen: &mut Pen,
     out: &mut TetLines,
 ) -> Result<(), NoMemory>
-    requires among { All (AreAmong nodes.now) tets.now }
-    requires known { (all : List Place) → AreInRow all nodes.now.first nodes.now.places.items → All (Covers out.old.angles) (map (corner_places all) tets.now) }
+    requires among { All (AreAmong _nodes.now) tets.now }
+    requires known { (all : List Place) → AreInRow all _nodes.now.first _nodes.now.places.items → All (Covers out.old.angles) (map (corner_places all) tets.now) }
     requires room { out.old.number + length tets.now < 2 ^ 63 }
-    ensures adds { OnOk result (Adds nodes.now out.old tets.now out.new) }
+    ensures adds { OnOk result (Adds _nodes.now out.old tets.now out.new) }
     ensures few { out.new.number ≤ out.old.number + length tets.now }
 {
-    for n in 0..tets.len() {
-        push_known_tet(nodes, tets[n], pen, out)?;
-    }
+    push_text(tets, pen, out)?;
+    out.number += tets.len() as u64;
     Ok(())
+}
+
+// The angles of a tetrahedron with a number, whose nodes have these numbers.
+#[inline(always)]
+fn take_tet(nodes: &Nodes, numbers: [u32; 4], number: u64, angles: &mut Remembering)
+    requires among { All (IsAmong nodes.now) numbers }
+    requires measured { AreMeasuredIn nodes.now (numbers ∷ []) }
+    ensures { (all : List Place) → AreInRow all nodes.now.first nodes.now.places.items → (xs : List Extreme) → angles.old ≡ extremes_of xs → angles.new ≡ extremes_of (xs ++ angles_of all (number, numbers)) }
+{
+    angles.take(places_of(nodes, numbers), number, numbers);
+}
+
+// The angles of tetrahedra that are numbered from `number` on.
+fn take_all(nodes: &Nodes, tets: &[[u32; 4]], number: u64, angles: &mut Remembering)
+    requires among { All (AreAmong nodes.now) tets.now }
+    requires measured { AreMeasuredIn nodes.now tets.now }
+    requires room { number + length tets.now < 2 ^ 63 }
+    ensures { (all : List Place) → AreInRow all nodes.now.first nodes.now.places.items → (xs : List Extreme) → angles.old ≡ extremes_of xs → angles.new ≡ extremes_of (xs ++ flat_map (angles_of all) (enumerate_from number tets.now)) }
+{
+    for n in 0..tets.len() {
+        take_tet(nodes, tets[n], number + n as u64, angles);
+    }
 }
 
 // The places of the neighbours upwards of a vertex where the lattice tetrahedra are whole.
@@ -184,9 +139,9 @@ pub fn push_all(
     ensures adds { OnOk result (Adds nodes.now out.old tets.now out.new) }
     ensures few { out.new.number ≤ out.old.number + length tets.now }
 {
-    for n in 0..tets.len() {
-        push_tet(nodes, tets[n], pen, out)?;
-    }
+    push_text(tets, pen, out)?;
+    take_all(nodes, tets, out.number, &mut out.angles);
+    out.number += tets.len() as u64;
     Ok(())
 }
 

@@ -39,6 +39,7 @@ pub struct TetText {
 // first of them.
 fn begin_nodes(
     alloc: Global,
+    tools: &mut Tools,
     offsets: &Offsets,
     from: u32,
     to: u32,
@@ -50,9 +51,7 @@ fn begin_nodes(
     ensures text { IfOk result (λ out. out.text.items ≡ []) }
     ensures number { IfOk result (λ out. out.number ≡ numbering + sum_by (λ c. c.nodes) (take from offsets.now)) }
 {
-    let Ok(text) = Vec::with_capacity(alloc, NODE_ROOM * count(offsets, from, to) as usize) else {
-        return Err(NoMemory);
-    };
+    let text = tools.text(alloc, NODE_ROOM * count(offsets, from, to) as usize)?;
     Ok(NodeLines {
         text,
         number: numbering + offsets.node_start(from),
@@ -92,7 +91,7 @@ pub fn node_text(
     let end = ids_below(dims, to);
     let starts = Starts::of_layers(alloc, states, offsets, from, to)?;
     let v = first_vertex(from);
-    let mut out = begin_nodes(alloc, offsets, from, to, numbering)?;
+    let mut out = begin_nodes(alloc, tools, offsets, from, to, numbering)?;
     push_lines(
         field,
         states,
@@ -111,6 +110,7 @@ pub fn node_text(
 fn room(offsets: &Offsets, from: u32, to: u32) -> usize
     requires some { from ≤ to }
     requires within { to ≤ length offsets.now }
+    ensures { result < 2 ^ 62 }
 {
     let tets = offsets
         .tet_start(to)
@@ -121,6 +121,7 @@ fn room(offsets: &Offsets, from: u32, to: u32) -> usize
 // No lines yet, with room for those of the layers from `from` on and before `to` if lines are written.
 fn begin(
     alloc: Global,
+    tools: &mut Tools,
     offsets: &Offsets,
     from: u32,
     to: u32,
@@ -136,9 +137,10 @@ fn begin(
     ensures number { IfOk result (λ out. out.number ≡ sum_by (λ c. c.tets) (take from offsets.now)) }
     ensures angles { IfOk result (λ out. out.angles ≡ None) }
 {
-    let bytes = if writes { room(offsets, from, to) } else { 0 };
-    let Ok(text) = Vec::with_capacity(alloc, bytes) else {
-        return Err(NoMemory);
+    let text = if writes {
+        tools.text(alloc, room(offsets, from, to))?
+    } else {
+        Vec::new(alloc)
     };
     Ok(TetLines {
         text,
@@ -176,7 +178,7 @@ fn tets_of_layers(
     let dims = states.dims();
     let top = (to + 2).min(layers(dims));
     let nodes = Nodes::of_layers(alloc, field, states, offsets, from, top)?;
-    let mut out = begin(alloc, offsets, from, to, writes, numbering)?;
+    let mut out = begin(alloc, tools, offsets, from, to, writes, numbering)?;
     let v = first_vertex(from);
     let end = ids_below(dims, to);
     push_tets(states, &nodes, v, nodes.start, end, tools, &mut out)?;

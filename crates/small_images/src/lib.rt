@@ -63,7 +63,7 @@ pub fn field_of(
         return None;
     }
     let volume = Volume::new(dims, 1, short_samples(alloc, numbers)?);
-    let field = Field::of_volume(volume, Level::new(twice)?, below);
+    let field = Field::of_volume(alloc, volume, Level::new(twice)?, below).ok()?;
     let _ = vertex_count(field.dims());
     Some(field)
 }
@@ -87,7 +87,7 @@ pub fn phantom_field(alloc: Global, n: u32) -> Option<Field>
     ensures { IfSome result (λ f. length (vertices f.dims) < 2 ^ 32) }
 {
     let volume = phantom(alloc, n, 7).ok()?;
-    let field = Field::of_volume(volume, Level::new(399)?, false);
+    let field = Field::of_volume(alloc, volume, Level::new(399)?, false).ok()?;
     let _ = vertex_count(field.dims());
     Some(field)
 }

@@ -10,17 +10,20 @@ use Rattle.definitions.specs.declared.Sign.{Sign}
 use Rattle.definitions.specs.declared.Sign.TheVariants.{Minus, Zero, Plus}
 use Rattle.definitions.specs.declared.Vertex.{Vertex}
 use Rattle.definitions.specs.Cuts.{are_opposite}
-use Rattle.definitions.specs.Lattice.{InDomain, moved, neighbour, step, directed, vertex}
+use Rattle.definitions.specs.Lattice.{InDomain, moved, neighbour, step, directed, layers}
 use Rattle.definitions.specs.States.{Shares, is_up, direction_of, snapped, state_of}
 use Rattle.definitions.specs.Values.{Field, corner_difference, cube_sum, row_sum, square_sum, sign_of, value}
+use Rattle.lattice_counts.specs.Counts.{row_len}
 use Rattle.lattice_laws.proofs.EdgeSteps.{from_back}
 use Rattle.lattice_laws.proofs.LaterNeighbours.{neighbour_leads}
 use Rattle.lattice_laws.proofs.Steps.{after_step_1, after_step_2, after_step_3, after_step_4, after_step_5, after_step_6, after_step_7}
 use Rattle.lattice_laws.proofs.Vertices.{domain_out}
 use Rattle.snap_laws.specs.Around.{around}
 use Rattle.snap_laws.proofs.ByValues.{states_by_values}
+use Rattle.samples.specs.declared.SignWords.{SignWords}
+use Rattle.samples.specs.SignWords.{IsTold}
 use Rattle.snap_rule.specs.declared.columns.Lines.{Lines}
-use Rattle.snap_rule.specs.Alike.{AreAround, AreColumns, IsNear, HasAround}
+use Rattle.snap_rule.specs.Alike.{AreAround, IsNear, HasAround, TellAround, TellColumns, vertex_of_row}
 use Rattle.snap_rule.proofs.Values.{state_alike}
 
 -- ---- sums of one sign
@@ -170,16 +173,27 @@ module _ (f : Field) (v : Vertex) (s : Sign) (alike : HasAround f v s) where
       ∙ sym (state_alike shares (value f v) (map (around f v) (range_with_len 1 14)) (edges_alike (value f v) own 1 14 (omega arith) (omega arith)))
       ∙ ap (λ g. snapped g None) own
 
--- ---- by lines
+-- ---- by words
 
-pub has_around : (f : Field) (l : Lines) (s : Sign) (a n h y x : ℕ) → AreAround f l h y → AreColumns f l s a n → a ≤ x / 2 - 1 → x / 2 + 2 + x % 2 ≤ n → HasAround f (vertex h y x) s
-has_around f l s a n h y x lines columns low high i j k p q r =
-    let j_lines = lines.y_lines j q in
-    let k_lines = lines.z_lines k r in
-    columns i (first x i a p.above low) (last x i n p.below high) p.within j k j_lines.0 j_lines.1 k_lines.0 k_lines.1
+pub around_told : (f : Field) (l : Lines) (h j i : ℕ) (w result : SignWords) → AreAround f l h (j * 2 + h % 2) → TellColumns f l i w →
+    ((s : Sign) (b : ℕ) → IsTold result s b → (t : ℕ) → t ≤ 2 + h % 2 → IsTold w s (b + t)) → TellAround f h j i result
+around_told f l h j i w result lines columns next s b told c cj ck p q r =
+    let j_lines = lines.y_lines cj q in
+    let k_lines = lines.z_lines ck r in
+    let low : i + b ≤ c + 1 = first i b h c p.above in
+    let high : c + 1 - (i + b) ≤ 2 + h % 2 = last i b h c p.below in
+    columns s (b + (c + 1 - (i + b))) (next s b told (c + 1 - (i + b)) high) c (omega arith) cj ck j_lines.0 j_lines.1 k_lines.0 k_lines.1
   where
-    first : (x i a : ℕ) → x ≤ 2 * i + 3 → a ≤ x / 2 - 1 → a ≤ i
-    first x i a p q = omega arith
+    first : (i b h c : ℕ) → (i + b) * 2 + h % 2 ≤ 2 * c + 3 → i + b ≤ c + 1
+    first i b h c p = omega arith
 
-    last : (x i n : ℕ) → 2 * i ≤ x + 3 → x / 2 + 2 + x % 2 ≤ n → i < n
-    last x i n p q = omega arith
+    last : (i b h c : ℕ) → 2 * c ≤ (i + b) * 2 + h % 2 + 3 → c + 1 - (i + b) ≤ 2 + h % 2
+    last i b h c p = omega arith
+
+-- a vertex of a row that is told to have one sign around
+pub told_alike : (f : Field) (shares : Shares) (h j i b : ℕ) (w : SignWords) (s : Sign) → h < layers f.dims → j < row_len f.dims.ny h → i + b < row_len f.dims.nx h → TellAround f h j i w → IsTold w s b →
+    snapped s None ≡ state_of f shares (vertex_of_row h j (i + b))
+told_alike f shares h j i b w s layer row column around told = sym (state_of_alike f (vertex_of_row h j (i + b)) s (around s b told) shares inside)
+  where
+    inside : InDomain f.dims (vertex_of_row h j (i + b))
+    inside = record { h_below = omega arith; y_below = omega arith; x_below = omega arith; y_alike = omega arith; x_alike = omega arith }

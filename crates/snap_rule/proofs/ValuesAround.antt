@@ -1,18 +1,20 @@
 -- The values around a vertex, by where its edges lead.
 use Rattle.std.proofs.Common.{◌≡◌, ℕ, zero, suc, ◌+◌, ◌-◌, ◌*◌, ◌/◌, ◌%◌, ◌^◌, ◌<◌, ◌≤◌, sym, ◌∙◌, ap, subst, Some, true, false, ℤ, pos, w64, to_z, of_z, List, [], ◌∷◌, length, get_or, arith}
-use Rattle.std.specs.Prelude.{unsigned_abs}
-use Rattle.std.specs.List.{AllByRecursion}
+use Rattle.std.specs.Prelude.{map, unsigned_abs, ◌*ℤ◌}
+use Rattle.std.specs.List.{AllByRecursion, range_with_len}
 use Rattle.std.specs.Option.{option_map_or}
 use Rattle.definitions.specs.declared.Dims.{Dims}
 use Rattle.definitions.specs.declared.Vertex.{Vertex}
 use Rattle.definitions.specs.Lattice.{InDomain, moved, neighbour, step, directed, vertex}
-use Rattle.definitions.specs.Values.{Field, value}
+use Rattle.definitions.specs.Values.{Field, corner_difference, cube_sum, value}
 use Rattle.lattice_laws.proofs.EdgeSteps.{back_from}
 use Rattle.lattice_laws.proofs.LaterNeighbours.{neighbour_led}
 use Rattle.lattice_laws.proofs.Steps.{is_step_1, is_step_2, is_step_3, is_step_4, is_step_5, is_step_6, is_step_7}
 use Rattle.lattice_laws.proofs.Vertices.{domain_in}
 use Rattle.snap_laws.specs.Around.{around}
-use Rattle.snap_rule.specs.Near.{IsSmallValue}
+use Rattle.samples.specs.Stars.{corner_star, centre_star}
+use Rattle.samples.proofs.ValuesAt.{corner_value, centre_value}
+use Rattle.snap_rule.specs.Near.{IsSmallValue, in_order}
 use Rattle.snap_rule.proofs.Values.{read}
 
 -- the values at the other ends of an edge upwards and of one downwards
@@ -29,8 +31,8 @@ centre_inside : (d : Dims) (i j k : ℕ) → i ≤ d.nx → j ≤ d.ny → k ≤
 centre_inside d i j k p q r = record { h_below = omega arith; y_below = omega arith; x_below = omega arith; y_alike = omega arith; x_alike = omega arith }
 
 -- numbers as they are kept
-pub kept : (r around there : ℤ) → unsigned_abs r ≤ 2 ^ 37 → r ≡ there → around ≡ there → to_z w64 (of_z w64 r) ≡ around
-kept r around there s e g = read r (omega arith) ∙ e ∙ sym g
+pub kept : (r : ℤ) → unsigned_abs r ≤ 2 ^ 37 → to_z w64 (of_z w64 r) ≡ r
+kept r s = read r (omega arith)
 
 pub kept_small : (r : ℤ) → unsigned_abs r ≤ 2 ^ 37 → IsSmallValue (to_z w64 (of_z w64 r))
 kept_small r s = subst IsSmallValue (sym (read r (omega arith))) (omega arith)
@@ -40,101 +42,113 @@ each_small [] h k d lt = absurd (omega arith)
 each_small (x ∷ xs) h zero d lt = h.0
 each_small (x ∷ xs) h (suc k) d lt = each_small xs h.1 k d (omega arith)
 
--- a corner and a centre by the numbers of its corner and its cube
-pub corner_of : (v : Vertex) → v.h % 2 ≡ 0 → v.y % 2 ≡ v.h % 2 → v.x % 2 ≡ v.h % 2 → v ≡ vertex (2 * (v.h / 2)) (2 * (v.y / 2)) (2 * (v.x / 2))
-corner_of v h y x = λ i. record { h = even v.h h i; y = even v.y (y ∙ h) i; x = even v.x (x ∙ h) i }
+-- an inner corner and centre by the least corner of the block around it
+pub corner_of : (v : Vertex) → v.h % 2 ≡ 0 → v.y % 2 ≡ v.h % 2 → v.x % 2 ≡ v.h % 2 → 2 ≤ v.h → 2 ≤ v.y → 2 ≤ v.x → vertex (2 * (v.h / 2 - 1 + 1)) (2 * (v.y / 2 - 1 + 1)) (2 * (v.x / 2 - 1 + 1)) ≡ v
+corner_of v h y x h_low y_low x_low = λ i. record { h = even v.h h h_low i; y = even v.y (y ∙ h) y_low i; x = even v.x (x ∙ h) x_low i }
   where
-    even : (n : ℕ) → n % 2 ≡ 0 → n ≡ 2 * (n / 2)
-    even n e = omega arith
+    even : (n : ℕ) → n % 2 ≡ 0 → 2 ≤ n → 2 * (n / 2 - 1 + 1) ≡ n
+    even n e low = omega arith
 
-pub centre_of : (v : Vertex) → v.h % 2 ≡ 1 → v.y % 2 ≡ v.h % 2 → v.x % 2 ≡ v.h % 2 → v ≡ vertex (2 * (v.h / 2) + 1) (2 * (v.y / 2) + 1) (2 * (v.x / 2) + 1)
-centre_of v h y x = λ i. record { h = odd v.h h i; y = odd v.y (y ∙ h) i; x = odd v.x (x ∙ h) i }
+pub centre_of : (v : Vertex) → v.h % 2 ≡ 1 → v.y % 2 ≡ v.h % 2 → v.x % 2 ≡ v.h % 2 → 2 ≤ v.h → 2 ≤ v.y → 2 ≤ v.x → vertex (2 * (v.h / 2 - 1 + 1) + 1) (2 * (v.y / 2 - 1 + 1) + 1) (2 * (v.x / 2 - 1 + 1) + 1) ≡ v
+centre_of v h y x h_low y_low x_low = λ i. record { h = odd v.h h h_low i; y = odd v.y (y ∙ h) y_low i; x = odd v.x (x ∙ h) x_low i }
   where
-    odd : (n : ℕ) → n % 2 ≡ 1 → n ≡ 2 * (n / 2) + 1
-    odd n e = omega arith
+    odd : (n : ℕ) → n % 2 ≡ 1 → 2 ≤ n → 2 * (n / 2 - 1 + 1) + 1 ≡ n
+    odd n e low = omega arith
 
-module _ (f : Field) (i j k : ℕ) (i_low : 1 ≤ i) (j_low : 1 ≤ j) (k_low : 1 ≤ k) (i_high : i ≤ f.dims.nx) (j_high : j ≤ f.dims.ny) (k_high : k ≤ f.dims.nz) where
-  pub corner_1 : around f (vertex (2 * k) (2 * j) (2 * i)) 1 ≡ value f (vertex (2 * k) (2 * j) (2 * (i + 1)))
-  corner_1 = up f (vertex (2 * k) (2 * j) (2 * i)) (vertex (2 * k) (2 * j) (2 * (i + 1))) 1 (corner_inside f.dims (i + 1) j k (omega arith) (omega arith) (omega arith)) (is_step_1 (vertex (2 * k) (2 * j) (2 * i)) (vertex (2 * k) (2 * j) (2 * (i + 1))) (omega arith) (omega arith) (omega arith))
+module _ (f : Field) (i j k : ℕ) (i_high : i + 1 ≤ f.dims.nx) (j_high : j + 1 ≤ f.dims.ny) (k_high : k + 1 ≤ f.dims.nz) where
+  corner_1 : around f (vertex (2 * (k + 1)) (2 * (j + 1)) (2 * (i + 1))) 1 ≡ pos 8 *ℤ corner_difference f (i + 1 + 1) (j + 1) (k + 1)
+  corner_1 = up f (vertex (2 * (k + 1)) (2 * (j + 1)) (2 * (i + 1))) (vertex (2 * (k + 1)) (2 * (j + 1)) (2 * (i + 1 + 1))) 1 (corner_inside f.dims (i + 1 + 1) (j + 1) (k + 1) (omega arith) (omega arith) (omega arith)) (is_step_1 (vertex (2 * (k + 1)) (2 * (j + 1)) (2 * (i + 1))) (vertex (2 * (k + 1)) (2 * (j + 1)) (2 * (i + 1 + 1))) (omega arith) (omega arith) (omega arith)) ∙ corner_value f (i + 1 + 1) (j + 1) (k + 1)
 
-  pub corner_2 : around f (vertex (2 * k) (2 * j) (2 * i)) 2 ≡ value f (vertex (2 * k) (2 * (j + 1)) (2 * i))
-  corner_2 = up f (vertex (2 * k) (2 * j) (2 * i)) (vertex (2 * k) (2 * (j + 1)) (2 * i)) 2 (corner_inside f.dims i (j + 1) k (omega arith) (omega arith) (omega arith)) (is_step_2 (vertex (2 * k) (2 * j) (2 * i)) (vertex (2 * k) (2 * (j + 1)) (2 * i)) (omega arith) (omega arith) (omega arith))
+  corner_2 : around f (vertex (2 * (k + 1)) (2 * (j + 1)) (2 * (i + 1))) 2 ≡ pos 8 *ℤ corner_difference f (i + 1) (j + 1 + 1) (k + 1)
+  corner_2 = up f (vertex (2 * (k + 1)) (2 * (j + 1)) (2 * (i + 1))) (vertex (2 * (k + 1)) (2 * (j + 1 + 1)) (2 * (i + 1))) 2 (corner_inside f.dims (i + 1) (j + 1 + 1) (k + 1) (omega arith) (omega arith) (omega arith)) (is_step_2 (vertex (2 * (k + 1)) (2 * (j + 1)) (2 * (i + 1))) (vertex (2 * (k + 1)) (2 * (j + 1 + 1)) (2 * (i + 1))) (omega arith) (omega arith) (omega arith)) ∙ corner_value f (i + 1) (j + 1 + 1) (k + 1)
 
-  pub corner_3 : around f (vertex (2 * k) (2 * j) (2 * i)) 3 ≡ value f (vertex (2 * k + 1) (2 * (j - 1) + 1) (2 * (i - 1) + 1))
-  corner_3 = up f (vertex (2 * k) (2 * j) (2 * i)) (vertex (2 * k + 1) (2 * (j - 1) + 1) (2 * (i - 1) + 1)) 3 (centre_inside f.dims (i - 1) (j - 1) k (omega arith) (omega arith) (omega arith)) (is_step_3 (vertex (2 * k) (2 * j) (2 * i)) (vertex (2 * k + 1) (2 * (j - 1) + 1) (2 * (i - 1) + 1)) (omega arith) (omega arith) (omega arith))
+  corner_3 : around f (vertex (2 * (k + 1)) (2 * (j + 1)) (2 * (i + 1))) 3 ≡ cube_sum f i j (k + 1)
+  corner_3 = up f (vertex (2 * (k + 1)) (2 * (j + 1)) (2 * (i + 1))) (vertex (2 * (k + 1) + 1) (2 * j + 1) (2 * i + 1)) 3 (centre_inside f.dims i j (k + 1) (omega arith) (omega arith) (omega arith)) (is_step_3 (vertex (2 * (k + 1)) (2 * (j + 1)) (2 * (i + 1))) (vertex (2 * (k + 1) + 1) (2 * j + 1) (2 * i + 1)) (omega arith) (omega arith) (omega arith)) ∙ centre_value f i j (k + 1)
 
-  pub corner_4 : around f (vertex (2 * k) (2 * j) (2 * i)) 4 ≡ value f (vertex (2 * k + 1) (2 * (j - 1) + 1) (2 * i + 1))
-  corner_4 = up f (vertex (2 * k) (2 * j) (2 * i)) (vertex (2 * k + 1) (2 * (j - 1) + 1) (2 * i + 1)) 4 (centre_inside f.dims i (j - 1) k (omega arith) (omega arith) (omega arith)) (is_step_4 (vertex (2 * k) (2 * j) (2 * i)) (vertex (2 * k + 1) (2 * (j - 1) + 1) (2 * i + 1)) (omega arith) (omega arith) (omega arith))
+  corner_4 : around f (vertex (2 * (k + 1)) (2 * (j + 1)) (2 * (i + 1))) 4 ≡ cube_sum f (i + 1) j (k + 1)
+  corner_4 = up f (vertex (2 * (k + 1)) (2 * (j + 1)) (2 * (i + 1))) (vertex (2 * (k + 1) + 1) (2 * j + 1) (2 * (i + 1) + 1)) 4 (centre_inside f.dims (i + 1) j (k + 1) (omega arith) (omega arith) (omega arith)) (is_step_4 (vertex (2 * (k + 1)) (2 * (j + 1)) (2 * (i + 1))) (vertex (2 * (k + 1) + 1) (2 * j + 1) (2 * (i + 1) + 1)) (omega arith) (omega arith) (omega arith)) ∙ centre_value f (i + 1) j (k + 1)
 
-  pub corner_5 : around f (vertex (2 * k) (2 * j) (2 * i)) 5 ≡ value f (vertex (2 * k + 1) (2 * j + 1) (2 * (i - 1) + 1))
-  corner_5 = up f (vertex (2 * k) (2 * j) (2 * i)) (vertex (2 * k + 1) (2 * j + 1) (2 * (i - 1) + 1)) 5 (centre_inside f.dims (i - 1) j k (omega arith) (omega arith) (omega arith)) (is_step_5 (vertex (2 * k) (2 * j) (2 * i)) (vertex (2 * k + 1) (2 * j + 1) (2 * (i - 1) + 1)) (omega arith) (omega arith) (omega arith))
+  corner_5 : around f (vertex (2 * (k + 1)) (2 * (j + 1)) (2 * (i + 1))) 5 ≡ cube_sum f i (j + 1) (k + 1)
+  corner_5 = up f (vertex (2 * (k + 1)) (2 * (j + 1)) (2 * (i + 1))) (vertex (2 * (k + 1) + 1) (2 * (j + 1) + 1) (2 * i + 1)) 5 (centre_inside f.dims i (j + 1) (k + 1) (omega arith) (omega arith) (omega arith)) (is_step_5 (vertex (2 * (k + 1)) (2 * (j + 1)) (2 * (i + 1))) (vertex (2 * (k + 1) + 1) (2 * (j + 1) + 1) (2 * i + 1)) (omega arith) (omega arith) (omega arith)) ∙ centre_value f i (j + 1) (k + 1)
 
-  pub corner_6 : around f (vertex (2 * k) (2 * j) (2 * i)) 6 ≡ value f (vertex (2 * k + 1) (2 * j + 1) (2 * i + 1))
-  corner_6 = up f (vertex (2 * k) (2 * j) (2 * i)) (vertex (2 * k + 1) (2 * j + 1) (2 * i + 1)) 6 (centre_inside f.dims i j k (omega arith) (omega arith) (omega arith)) (is_step_6 (vertex (2 * k) (2 * j) (2 * i)) (vertex (2 * k + 1) (2 * j + 1) (2 * i + 1)) (omega arith) (omega arith) (omega arith))
+  corner_6 : around f (vertex (2 * (k + 1)) (2 * (j + 1)) (2 * (i + 1))) 6 ≡ cube_sum f (i + 1) (j + 1) (k + 1)
+  corner_6 = up f (vertex (2 * (k + 1)) (2 * (j + 1)) (2 * (i + 1))) (vertex (2 * (k + 1) + 1) (2 * (j + 1) + 1) (2 * (i + 1) + 1)) 6 (centre_inside f.dims (i + 1) (j + 1) (k + 1) (omega arith) (omega arith) (omega arith)) (is_step_6 (vertex (2 * (k + 1)) (2 * (j + 1)) (2 * (i + 1))) (vertex (2 * (k + 1) + 1) (2 * (j + 1) + 1) (2 * (i + 1) + 1)) (omega arith) (omega arith) (omega arith)) ∙ centre_value f (i + 1) (j + 1) (k + 1)
 
-  pub corner_7 : around f (vertex (2 * k) (2 * j) (2 * i)) 7 ≡ value f (vertex (2 * (k + 1)) (2 * j) (2 * i))
-  corner_7 = up f (vertex (2 * k) (2 * j) (2 * i)) (vertex (2 * (k + 1)) (2 * j) (2 * i)) 7 (corner_inside f.dims i j (k + 1) (omega arith) (omega arith) (omega arith)) (is_step_7 (vertex (2 * k) (2 * j) (2 * i)) (vertex (2 * (k + 1)) (2 * j) (2 * i)) (omega arith) (omega arith) (omega arith))
+  corner_7 : around f (vertex (2 * (k + 1)) (2 * (j + 1)) (2 * (i + 1))) 7 ≡ pos 8 *ℤ corner_difference f (i + 1) (j + 1) (k + 1 + 1)
+  corner_7 = up f (vertex (2 * (k + 1)) (2 * (j + 1)) (2 * (i + 1))) (vertex (2 * (k + 1 + 1)) (2 * (j + 1)) (2 * (i + 1))) 7 (corner_inside f.dims (i + 1) (j + 1) (k + 1 + 1) (omega arith) (omega arith) (omega arith)) (is_step_7 (vertex (2 * (k + 1)) (2 * (j + 1)) (2 * (i + 1))) (vertex (2 * (k + 1 + 1)) (2 * (j + 1)) (2 * (i + 1))) (omega arith) (omega arith) (omega arith)) ∙ corner_value f (i + 1) (j + 1) (k + 1 + 1)
 
-  pub corner_8 : around f (vertex (2 * k) (2 * j) (2 * i)) 8 ≡ value f (vertex (2 * k) (2 * j) (2 * (i - 1)))
-  corner_8 = down f (vertex (2 * k) (2 * j) (2 * i)) (vertex (2 * k) (2 * j) (2 * (i - 1))) 1 (omega arith) (omega arith) (corner_inside f.dims (i - 1) j k (omega arith) (omega arith) (omega arith)) (is_step_1 (vertex (2 * k) (2 * j) (2 * (i - 1))) (vertex (2 * k) (2 * j) (2 * i)) (omega arith) (omega arith) (omega arith))
+  corner_8 : around f (vertex (2 * (k + 1)) (2 * (j + 1)) (2 * (i + 1))) 8 ≡ pos 8 *ℤ corner_difference f i (j + 1) (k + 1)
+  corner_8 = down f (vertex (2 * (k + 1)) (2 * (j + 1)) (2 * (i + 1))) (vertex (2 * (k + 1)) (2 * (j + 1)) (2 * i)) 1 (omega arith) (omega arith) (corner_inside f.dims i (j + 1) (k + 1) (omega arith) (omega arith) (omega arith)) (is_step_1 (vertex (2 * (k + 1)) (2 * (j + 1)) (2 * i)) (vertex (2 * (k + 1)) (2 * (j + 1)) (2 * (i + 1))) (omega arith) (omega arith) (omega arith)) ∙ corner_value f i (j + 1) (k + 1)
 
-  pub corner_9 : around f (vertex (2 * k) (2 * j) (2 * i)) 9 ≡ value f (vertex (2 * k) (2 * (j - 1)) (2 * i))
-  corner_9 = down f (vertex (2 * k) (2 * j) (2 * i)) (vertex (2 * k) (2 * (j - 1)) (2 * i)) 2 (omega arith) (omega arith) (corner_inside f.dims i (j - 1) k (omega arith) (omega arith) (omega arith)) (is_step_2 (vertex (2 * k) (2 * (j - 1)) (2 * i)) (vertex (2 * k) (2 * j) (2 * i)) (omega arith) (omega arith) (omega arith))
+  corner_9 : around f (vertex (2 * (k + 1)) (2 * (j + 1)) (2 * (i + 1))) 9 ≡ pos 8 *ℤ corner_difference f (i + 1) j (k + 1)
+  corner_9 = down f (vertex (2 * (k + 1)) (2 * (j + 1)) (2 * (i + 1))) (vertex (2 * (k + 1)) (2 * j) (2 * (i + 1))) 2 (omega arith) (omega arith) (corner_inside f.dims (i + 1) j (k + 1) (omega arith) (omega arith) (omega arith)) (is_step_2 (vertex (2 * (k + 1)) (2 * j) (2 * (i + 1))) (vertex (2 * (k + 1)) (2 * (j + 1)) (2 * (i + 1))) (omega arith) (omega arith) (omega arith)) ∙ corner_value f (i + 1) j (k + 1)
 
-  pub corner_10 : around f (vertex (2 * k) (2 * j) (2 * i)) 10 ≡ value f (vertex (2 * (k - 1) + 1) (2 * j + 1) (2 * i + 1))
-  corner_10 = down f (vertex (2 * k) (2 * j) (2 * i)) (vertex (2 * (k - 1) + 1) (2 * j + 1) (2 * i + 1)) 3 (omega arith) (omega arith) (centre_inside f.dims i j (k - 1) (omega arith) (omega arith) (omega arith)) (is_step_3 (vertex (2 * (k - 1) + 1) (2 * j + 1) (2 * i + 1)) (vertex (2 * k) (2 * j) (2 * i)) (omega arith) (omega arith) (omega arith))
+  corner_10 : around f (vertex (2 * (k + 1)) (2 * (j + 1)) (2 * (i + 1))) 10 ≡ cube_sum f (i + 1) (j + 1) k
+  corner_10 = down f (vertex (2 * (k + 1)) (2 * (j + 1)) (2 * (i + 1))) (vertex (2 * k + 1) (2 * (j + 1) + 1) (2 * (i + 1) + 1)) 3 (omega arith) (omega arith) (centre_inside f.dims (i + 1) (j + 1) k (omega arith) (omega arith) (omega arith)) (is_step_3 (vertex (2 * k + 1) (2 * (j + 1) + 1) (2 * (i + 1) + 1)) (vertex (2 * (k + 1)) (2 * (j + 1)) (2 * (i + 1))) (omega arith) (omega arith) (omega arith)) ∙ centre_value f (i + 1) (j + 1) k
 
-  pub corner_11 : around f (vertex (2 * k) (2 * j) (2 * i)) 11 ≡ value f (vertex (2 * (k - 1) + 1) (2 * j + 1) (2 * (i - 1) + 1))
-  corner_11 = down f (vertex (2 * k) (2 * j) (2 * i)) (vertex (2 * (k - 1) + 1) (2 * j + 1) (2 * (i - 1) + 1)) 4 (omega arith) (omega arith) (centre_inside f.dims (i - 1) j (k - 1) (omega arith) (omega arith) (omega arith)) (is_step_4 (vertex (2 * (k - 1) + 1) (2 * j + 1) (2 * (i - 1) + 1)) (vertex (2 * k) (2 * j) (2 * i)) (omega arith) (omega arith) (omega arith))
+  corner_11 : around f (vertex (2 * (k + 1)) (2 * (j + 1)) (2 * (i + 1))) 11 ≡ cube_sum f i (j + 1) k
+  corner_11 = down f (vertex (2 * (k + 1)) (2 * (j + 1)) (2 * (i + 1))) (vertex (2 * k + 1) (2 * (j + 1) + 1) (2 * i + 1)) 4 (omega arith) (omega arith) (centre_inside f.dims i (j + 1) k (omega arith) (omega arith) (omega arith)) (is_step_4 (vertex (2 * k + 1) (2 * (j + 1) + 1) (2 * i + 1)) (vertex (2 * (k + 1)) (2 * (j + 1)) (2 * (i + 1))) (omega arith) (omega arith) (omega arith)) ∙ centre_value f i (j + 1) k
 
-  pub corner_12 : around f (vertex (2 * k) (2 * j) (2 * i)) 12 ≡ value f (vertex (2 * (k - 1) + 1) (2 * (j - 1) + 1) (2 * i + 1))
-  corner_12 = down f (vertex (2 * k) (2 * j) (2 * i)) (vertex (2 * (k - 1) + 1) (2 * (j - 1) + 1) (2 * i + 1)) 5 (omega arith) (omega arith) (centre_inside f.dims i (j - 1) (k - 1) (omega arith) (omega arith) (omega arith)) (is_step_5 (vertex (2 * (k - 1) + 1) (2 * (j - 1) + 1) (2 * i + 1)) (vertex (2 * k) (2 * j) (2 * i)) (omega arith) (omega arith) (omega arith))
+  corner_12 : around f (vertex (2 * (k + 1)) (2 * (j + 1)) (2 * (i + 1))) 12 ≡ cube_sum f (i + 1) j k
+  corner_12 = down f (vertex (2 * (k + 1)) (2 * (j + 1)) (2 * (i + 1))) (vertex (2 * k + 1) (2 * j + 1) (2 * (i + 1) + 1)) 5 (omega arith) (omega arith) (centre_inside f.dims (i + 1) j k (omega arith) (omega arith) (omega arith)) (is_step_5 (vertex (2 * k + 1) (2 * j + 1) (2 * (i + 1) + 1)) (vertex (2 * (k + 1)) (2 * (j + 1)) (2 * (i + 1))) (omega arith) (omega arith) (omega arith)) ∙ centre_value f (i + 1) j k
 
-  pub corner_13 : around f (vertex (2 * k) (2 * j) (2 * i)) 13 ≡ value f (vertex (2 * (k - 1) + 1) (2 * (j - 1) + 1) (2 * (i - 1) + 1))
-  corner_13 = down f (vertex (2 * k) (2 * j) (2 * i)) (vertex (2 * (k - 1) + 1) (2 * (j - 1) + 1) (2 * (i - 1) + 1)) 6 (omega arith) (omega arith) (centre_inside f.dims (i - 1) (j - 1) (k - 1) (omega arith) (omega arith) (omega arith)) (is_step_6 (vertex (2 * (k - 1) + 1) (2 * (j - 1) + 1) (2 * (i - 1) + 1)) (vertex (2 * k) (2 * j) (2 * i)) (omega arith) (omega arith) (omega arith))
+  corner_13 : around f (vertex (2 * (k + 1)) (2 * (j + 1)) (2 * (i + 1))) 13 ≡ cube_sum f i j k
+  corner_13 = down f (vertex (2 * (k + 1)) (2 * (j + 1)) (2 * (i + 1))) (vertex (2 * k + 1) (2 * j + 1) (2 * i + 1)) 6 (omega arith) (omega arith) (centre_inside f.dims i j k (omega arith) (omega arith) (omega arith)) (is_step_6 (vertex (2 * k + 1) (2 * j + 1) (2 * i + 1)) (vertex (2 * (k + 1)) (2 * (j + 1)) (2 * (i + 1))) (omega arith) (omega arith) (omega arith)) ∙ centre_value f i j k
 
-  pub corner_14 : around f (vertex (2 * k) (2 * j) (2 * i)) 14 ≡ value f (vertex (2 * (k - 1)) (2 * j) (2 * i))
-  corner_14 = down f (vertex (2 * k) (2 * j) (2 * i)) (vertex (2 * (k - 1)) (2 * j) (2 * i)) 7 (omega arith) (omega arith) (corner_inside f.dims i j (k - 1) (omega arith) (omega arith) (omega arith)) (is_step_7 (vertex (2 * (k - 1)) (2 * j) (2 * i)) (vertex (2 * k) (2 * j) (2 * i)) (omega arith) (omega arith) (omega arith))
+  corner_14 : around f (vertex (2 * (k + 1)) (2 * (j + 1)) (2 * (i + 1))) 14 ≡ pos 8 *ℤ corner_difference f (i + 1) (j + 1) k
+  corner_14 = down f (vertex (2 * (k + 1)) (2 * (j + 1)) (2 * (i + 1))) (vertex (2 * k) (2 * (j + 1)) (2 * (i + 1))) 7 (omega arith) (omega arith) (corner_inside f.dims (i + 1) (j + 1) k (omega arith) (omega arith) (omega arith)) (is_step_7 (vertex (2 * k) (2 * (j + 1)) (2 * (i + 1))) (vertex (2 * (k + 1)) (2 * (j + 1)) (2 * (i + 1))) (omega arith) (omega arith) (omega arith)) ∙ corner_value f (i + 1) (j + 1) k
 
-module _ (f : Field) (i j k : ℕ) (i_low : 1 ≤ i) (j_low : 1 ≤ j) (k_low : 1 ≤ k) (i_high : i + 1 ≤ f.dims.nx) (j_high : j + 1 ≤ f.dims.ny) (k_high : k + 1 ≤ f.dims.nz) where
-  pub centre_1 : around f (vertex (2 * k + 1) (2 * j + 1) (2 * i + 1)) 1 ≡ value f (vertex (2 * k + 1) (2 * j + 1) (2 * (i + 1) + 1))
-  centre_1 = up f (vertex (2 * k + 1) (2 * j + 1) (2 * i + 1)) (vertex (2 * k + 1) (2 * j + 1) (2 * (i + 1) + 1)) 1 (centre_inside f.dims (i + 1) j k (omega arith) (omega arith) (omega arith)) (is_step_1 (vertex (2 * k + 1) (2 * j + 1) (2 * i + 1)) (vertex (2 * k + 1) (2 * j + 1) (2 * (i + 1) + 1)) (omega arith) (omega arith) (omega arith))
+  pub around_corner : in_order (corner_star f i j k) ≡ map (around f (vertex (2 * (k + 1)) (2 * (j + 1)) (2 * (i + 1)))) (range_with_len 1 14)
+  around_corner = λ t. sym corner_1 t ∷ sym corner_2 t ∷ sym corner_3 t ∷ sym corner_4 t ∷ sym corner_5 t ∷ sym corner_6 t ∷ sym corner_7 t ∷ sym corner_8 t ∷ sym corner_9 t ∷ sym corner_10 t ∷ sym corner_11 t ∷ sym corner_12 t ∷ sym corner_13 t ∷ sym corner_14 t ∷ []
 
-  pub centre_2 : around f (vertex (2 * k + 1) (2 * j + 1) (2 * i + 1)) 2 ≡ value f (vertex (2 * k + 1) (2 * (j + 1) + 1) (2 * i + 1))
-  centre_2 = up f (vertex (2 * k + 1) (2 * j + 1) (2 * i + 1)) (vertex (2 * k + 1) (2 * (j + 1) + 1) (2 * i + 1)) 2 (centre_inside f.dims i (j + 1) k (omega arith) (omega arith) (omega arith)) (is_step_2 (vertex (2 * k + 1) (2 * j + 1) (2 * i + 1)) (vertex (2 * k + 1) (2 * (j + 1) + 1) (2 * i + 1)) (omega arith) (omega arith) (omega arith))
+  pub own_corner : (corner_star f i j k).own ≡ value f (vertex (2 * (k + 1)) (2 * (j + 1)) (2 * (i + 1)))
+  own_corner = sym (corner_value f (i + 1) (j + 1) (k + 1))
 
-  pub centre_3 : around f (vertex (2 * k + 1) (2 * j + 1) (2 * i + 1)) 3 ≡ value f (vertex (2 * (k + 1)) (2 * j) (2 * i))
-  centre_3 = up f (vertex (2 * k + 1) (2 * j + 1) (2 * i + 1)) (vertex (2 * (k + 1)) (2 * j) (2 * i)) 3 (corner_inside f.dims i j (k + 1) (omega arith) (omega arith) (omega arith)) (is_step_3 (vertex (2 * k + 1) (2 * j + 1) (2 * i + 1)) (vertex (2 * (k + 1)) (2 * j) (2 * i)) (omega arith) (omega arith) (omega arith))
+module _ (f : Field) (i j k : ℕ) (i_high : i + 1 + 1 ≤ f.dims.nx) (j_high : j + 1 + 1 ≤ f.dims.ny) (k_high : k + 1 + 1 ≤ f.dims.nz) where
+  centre_1 : around f (vertex (2 * (k + 1) + 1) (2 * (j + 1) + 1) (2 * (i + 1) + 1)) 1 ≡ cube_sum f (i + 1 + 1) (j + 1) (k + 1)
+  centre_1 = up f (vertex (2 * (k + 1) + 1) (2 * (j + 1) + 1) (2 * (i + 1) + 1)) (vertex (2 * (k + 1) + 1) (2 * (j + 1) + 1) (2 * (i + 1 + 1) + 1)) 1 (centre_inside f.dims (i + 1 + 1) (j + 1) (k + 1) (omega arith) (omega arith) (omega arith)) (is_step_1 (vertex (2 * (k + 1) + 1) (2 * (j + 1) + 1) (2 * (i + 1) + 1)) (vertex (2 * (k + 1) + 1) (2 * (j + 1) + 1) (2 * (i + 1 + 1) + 1)) (omega arith) (omega arith) (omega arith)) ∙ centre_value f (i + 1 + 1) (j + 1) (k + 1)
 
-  pub centre_4 : around f (vertex (2 * k + 1) (2 * j + 1) (2 * i + 1)) 4 ≡ value f (vertex (2 * (k + 1)) (2 * j) (2 * (i + 1)))
-  centre_4 = up f (vertex (2 * k + 1) (2 * j + 1) (2 * i + 1)) (vertex (2 * (k + 1)) (2 * j) (2 * (i + 1))) 4 (corner_inside f.dims (i + 1) j (k + 1) (omega arith) (omega arith) (omega arith)) (is_step_4 (vertex (2 * k + 1) (2 * j + 1) (2 * i + 1)) (vertex (2 * (k + 1)) (2 * j) (2 * (i + 1))) (omega arith) (omega arith) (omega arith))
+  centre_2 : around f (vertex (2 * (k + 1) + 1) (2 * (j + 1) + 1) (2 * (i + 1) + 1)) 2 ≡ cube_sum f (i + 1) (j + 1 + 1) (k + 1)
+  centre_2 = up f (vertex (2 * (k + 1) + 1) (2 * (j + 1) + 1) (2 * (i + 1) + 1)) (vertex (2 * (k + 1) + 1) (2 * (j + 1 + 1) + 1) (2 * (i + 1) + 1)) 2 (centre_inside f.dims (i + 1) (j + 1 + 1) (k + 1) (omega arith) (omega arith) (omega arith)) (is_step_2 (vertex (2 * (k + 1) + 1) (2 * (j + 1) + 1) (2 * (i + 1) + 1)) (vertex (2 * (k + 1) + 1) (2 * (j + 1 + 1) + 1) (2 * (i + 1) + 1)) (omega arith) (omega arith) (omega arith)) ∙ centre_value f (i + 1) (j + 1 + 1) (k + 1)
 
-  pub centre_5 : around f (vertex (2 * k + 1) (2 * j + 1) (2 * i + 1)) 5 ≡ value f (vertex (2 * (k + 1)) (2 * (j + 1)) (2 * i))
-  centre_5 = up f (vertex (2 * k + 1) (2 * j + 1) (2 * i + 1)) (vertex (2 * (k + 1)) (2 * (j + 1)) (2 * i)) 5 (corner_inside f.dims i (j + 1) (k + 1) (omega arith) (omega arith) (omega arith)) (is_step_5 (vertex (2 * k + 1) (2 * j + 1) (2 * i + 1)) (vertex (2 * (k + 1)) (2 * (j + 1)) (2 * i)) (omega arith) (omega arith) (omega arith))
+  centre_3 : around f (vertex (2 * (k + 1) + 1) (2 * (j + 1) + 1) (2 * (i + 1) + 1)) 3 ≡ pos 8 *ℤ corner_difference f (i + 1) (j + 1) (k + 1 + 1)
+  centre_3 = up f (vertex (2 * (k + 1) + 1) (2 * (j + 1) + 1) (2 * (i + 1) + 1)) (vertex (2 * (k + 1 + 1)) (2 * (j + 1)) (2 * (i + 1))) 3 (corner_inside f.dims (i + 1) (j + 1) (k + 1 + 1) (omega arith) (omega arith) (omega arith)) (is_step_3 (vertex (2 * (k + 1) + 1) (2 * (j + 1) + 1) (2 * (i + 1) + 1)) (vertex (2 * (k + 1 + 1)) (2 * (j + 1)) (2 * (i + 1))) (omega arith) (omega arith) (omega arith)) ∙ corner_value f (i + 1) (j + 1) (k + 1 + 1)
 
-  pub centre_6 : around f (vertex (2 * k + 1) (2 * j + 1) (2 * i + 1)) 6 ≡ value f (vertex (2 * (k + 1)) (2 * (j + 1)) (2 * (i + 1)))
-  centre_6 = up f (vertex (2 * k + 1) (2 * j + 1) (2 * i + 1)) (vertex (2 * (k + 1)) (2 * (j + 1)) (2 * (i + 1))) 6 (corner_inside f.dims (i + 1) (j + 1) (k + 1) (omega arith) (omega arith) (omega arith)) (is_step_6 (vertex (2 * k + 1) (2 * j + 1) (2 * i + 1)) (vertex (2 * (k + 1)) (2 * (j + 1)) (2 * (i + 1))) (omega arith) (omega arith) (omega arith))
+  centre_4 : around f (vertex (2 * (k + 1) + 1) (2 * (j + 1) + 1) (2 * (i + 1) + 1)) 4 ≡ pos 8 *ℤ corner_difference f (i + 1 + 1) (j + 1) (k + 1 + 1)
+  centre_4 = up f (vertex (2 * (k + 1) + 1) (2 * (j + 1) + 1) (2 * (i + 1) + 1)) (vertex (2 * (k + 1 + 1)) (2 * (j + 1)) (2 * (i + 1 + 1))) 4 (corner_inside f.dims (i + 1 + 1) (j + 1) (k + 1 + 1) (omega arith) (omega arith) (omega arith)) (is_step_4 (vertex (2 * (k + 1) + 1) (2 * (j + 1) + 1) (2 * (i + 1) + 1)) (vertex (2 * (k + 1 + 1)) (2 * (j + 1)) (2 * (i + 1 + 1))) (omega arith) (omega arith) (omega arith)) ∙ corner_value f (i + 1 + 1) (j + 1) (k + 1 + 1)
 
-  pub centre_7 : around f (vertex (2 * k + 1) (2 * j + 1) (2 * i + 1)) 7 ≡ value f (vertex (2 * (k + 1) + 1) (2 * j + 1) (2 * i + 1))
-  centre_7 = up f (vertex (2 * k + 1) (2 * j + 1) (2 * i + 1)) (vertex (2 * (k + 1) + 1) (2 * j + 1) (2 * i + 1)) 7 (centre_inside f.dims i j (k + 1) (omega arith) (omega arith) (omega arith)) (is_step_7 (vertex (2 * k + 1) (2 * j + 1) (2 * i + 1)) (vertex (2 * (k + 1) + 1) (2 * j + 1) (2 * i + 1)) (omega arith) (omega arith) (omega arith))
+  centre_5 : around f (vertex (2 * (k + 1) + 1) (2 * (j + 1) + 1) (2 * (i + 1) + 1)) 5 ≡ pos 8 *ℤ corner_difference f (i + 1) (j + 1 + 1) (k + 1 + 1)
+  centre_5 = up f (vertex (2 * (k + 1) + 1) (2 * (j + 1) + 1) (2 * (i + 1) + 1)) (vertex (2 * (k + 1 + 1)) (2 * (j + 1 + 1)) (2 * (i + 1))) 5 (corner_inside f.dims (i + 1) (j + 1 + 1) (k + 1 + 1) (omega arith) (omega arith) (omega arith)) (is_step_5 (vertex (2 * (k + 1) + 1) (2 * (j + 1) + 1) (2 * (i + 1) + 1)) (vertex (2 * (k + 1 + 1)) (2 * (j + 1 + 1)) (2 * (i + 1))) (omega arith) (omega arith) (omega arith)) ∙ corner_value f (i + 1) (j + 1 + 1) (k + 1 + 1)
 
-  pub centre_8 : around f (vertex (2 * k + 1) (2 * j + 1) (2 * i + 1)) 8 ≡ value f (vertex (2 * k + 1) (2 * j + 1) (2 * (i - 1) + 1))
-  centre_8 = down f (vertex (2 * k + 1) (2 * j + 1) (2 * i + 1)) (vertex (2 * k + 1) (2 * j + 1) (2 * (i - 1) + 1)) 1 (omega arith) (omega arith) (centre_inside f.dims (i - 1) j k (omega arith) (omega arith) (omega arith)) (is_step_1 (vertex (2 * k + 1) (2 * j + 1) (2 * (i - 1) + 1)) (vertex (2 * k + 1) (2 * j + 1) (2 * i + 1)) (omega arith) (omega arith) (omega arith))
+  centre_6 : around f (vertex (2 * (k + 1) + 1) (2 * (j + 1) + 1) (2 * (i + 1) + 1)) 6 ≡ pos 8 *ℤ corner_difference f (i + 1 + 1) (j + 1 + 1) (k + 1 + 1)
+  centre_6 = up f (vertex (2 * (k + 1) + 1) (2 * (j + 1) + 1) (2 * (i + 1) + 1)) (vertex (2 * (k + 1 + 1)) (2 * (j + 1 + 1)) (2 * (i + 1 + 1))) 6 (corner_inside f.dims (i + 1 + 1) (j + 1 + 1) (k + 1 + 1) (omega arith) (omega arith) (omega arith)) (is_step_6 (vertex (2 * (k + 1) + 1) (2 * (j + 1) + 1) (2 * (i + 1) + 1)) (vertex (2 * (k + 1 + 1)) (2 * (j + 1 + 1)) (2 * (i + 1 + 1))) (omega arith) (omega arith) (omega arith)) ∙ corner_value f (i + 1 + 1) (j + 1 + 1) (k + 1 + 1)
 
-  pub centre_9 : around f (vertex (2 * k + 1) (2 * j + 1) (2 * i + 1)) 9 ≡ value f (vertex (2 * k + 1) (2 * (j - 1) + 1) (2 * i + 1))
-  centre_9 = down f (vertex (2 * k + 1) (2 * j + 1) (2 * i + 1)) (vertex (2 * k + 1) (2 * (j - 1) + 1) (2 * i + 1)) 2 (omega arith) (omega arith) (centre_inside f.dims i (j - 1) k (omega arith) (omega arith) (omega arith)) (is_step_2 (vertex (2 * k + 1) (2 * (j - 1) + 1) (2 * i + 1)) (vertex (2 * k + 1) (2 * j + 1) (2 * i + 1)) (omega arith) (omega arith) (omega arith))
+  centre_7 : around f (vertex (2 * (k + 1) + 1) (2 * (j + 1) + 1) (2 * (i + 1) + 1)) 7 ≡ cube_sum f (i + 1) (j + 1) (k + 1 + 1)
+  centre_7 = up f (vertex (2 * (k + 1) + 1) (2 * (j + 1) + 1) (2 * (i + 1) + 1)) (vertex (2 * (k + 1 + 1) + 1) (2 * (j + 1) + 1) (2 * (i + 1) + 1)) 7 (centre_inside f.dims (i + 1) (j + 1) (k + 1 + 1) (omega arith) (omega arith) (omega arith)) (is_step_7 (vertex (2 * (k + 1) + 1) (2 * (j + 1) + 1) (2 * (i + 1) + 1)) (vertex (2 * (k + 1 + 1) + 1) (2 * (j + 1) + 1) (2 * (i + 1) + 1)) (omega arith) (omega arith) (omega arith)) ∙ centre_value f (i + 1) (j + 1) (k + 1 + 1)
 
-  pub centre_10 : around f (vertex (2 * k + 1) (2 * j + 1) (2 * i + 1)) 10 ≡ value f (vertex (2 * k) (2 * (j + 1)) (2 * (i + 1)))
-  centre_10 = down f (vertex (2 * k + 1) (2 * j + 1) (2 * i + 1)) (vertex (2 * k) (2 * (j + 1)) (2 * (i + 1))) 3 (omega arith) (omega arith) (corner_inside f.dims (i + 1) (j + 1) k (omega arith) (omega arith) (omega arith)) (is_step_3 (vertex (2 * k) (2 * (j + 1)) (2 * (i + 1))) (vertex (2 * k + 1) (2 * j + 1) (2 * i + 1)) (omega arith) (omega arith) (omega arith))
+  centre_8 : around f (vertex (2 * (k + 1) + 1) (2 * (j + 1) + 1) (2 * (i + 1) + 1)) 8 ≡ cube_sum f i (j + 1) (k + 1)
+  centre_8 = down f (vertex (2 * (k + 1) + 1) (2 * (j + 1) + 1) (2 * (i + 1) + 1)) (vertex (2 * (k + 1) + 1) (2 * (j + 1) + 1) (2 * i + 1)) 1 (omega arith) (omega arith) (centre_inside f.dims i (j + 1) (k + 1) (omega arith) (omega arith) (omega arith)) (is_step_1 (vertex (2 * (k + 1) + 1) (2 * (j + 1) + 1) (2 * i + 1)) (vertex (2 * (k + 1) + 1) (2 * (j + 1) + 1) (2 * (i + 1) + 1)) (omega arith) (omega arith) (omega arith)) ∙ centre_value f i (j + 1) (k + 1)
 
-  pub centre_11 : around f (vertex (2 * k + 1) (2 * j + 1) (2 * i + 1)) 11 ≡ value f (vertex (2 * k) (2 * (j + 1)) (2 * i))
-  centre_11 = down f (vertex (2 * k + 1) (2 * j + 1) (2 * i + 1)) (vertex (2 * k) (2 * (j + 1)) (2 * i)) 4 (omega arith) (omega arith) (corner_inside f.dims i (j + 1) k (omega arith) (omega arith) (omega arith)) (is_step_4 (vertex (2 * k) (2 * (j + 1)) (2 * i)) (vertex (2 * k + 1) (2 * j + 1) (2 * i + 1)) (omega arith) (omega arith) (omega arith))
+  centre_9 : around f (vertex (2 * (k + 1) + 1) (2 * (j + 1) + 1) (2 * (i + 1) + 1)) 9 ≡ cube_sum f (i + 1) j (k + 1)
+  centre_9 = down f (vertex (2 * (k + 1) + 1) (2 * (j + 1) + 1) (2 * (i + 1) + 1)) (vertex (2 * (k + 1) + 1) (2 * j + 1) (2 * (i + 1) + 1)) 2 (omega arith) (omega arith) (centre_inside f.dims (i + 1) j (k + 1) (omega arith) (omega arith) (omega arith)) (is_step_2 (vertex (2 * (k + 1) + 1) (2 * j + 1) (2 * (i + 1) + 1)) (vertex (2 * (k + 1) + 1) (2 * (j + 1) + 1) (2 * (i + 1) + 1)) (omega arith) (omega arith) (omega arith)) ∙ centre_value f (i + 1) j (k + 1)
 
-  pub centre_12 : around f (vertex (2 * k + 1) (2 * j + 1) (2 * i + 1)) 12 ≡ value f (vertex (2 * k) (2 * j) (2 * (i + 1)))
-  centre_12 = down f (vertex (2 * k + 1) (2 * j + 1) (2 * i + 1)) (vertex (2 * k) (2 * j) (2 * (i + 1))) 5 (omega arith) (omega arith) (corner_inside f.dims (i + 1) j k (omega arith) (omega arith) (omega arith)) (is_step_5 (vertex (2 * k) (2 * j) (2 * (i + 1))) (vertex (2 * k + 1) (2 * j + 1) (2 * i + 1)) (omega arith) (omega arith) (omega arith))
+  centre_10 : around f (vertex (2 * (k + 1) + 1) (2 * (j + 1) + 1) (2 * (i + 1) + 1)) 10 ≡ pos 8 *ℤ corner_difference f (i + 1 + 1) (j + 1 + 1) (k + 1)
+  centre_10 = down f (vertex (2 * (k + 1) + 1) (2 * (j + 1) + 1) (2 * (i + 1) + 1)) (vertex (2 * (k + 1)) (2 * (j + 1 + 1)) (2 * (i + 1 + 1))) 3 (omega arith) (omega arith) (corner_inside f.dims (i + 1 + 1) (j + 1 + 1) (k + 1) (omega arith) (omega arith) (omega arith)) (is_step_3 (vertex (2 * (k + 1)) (2 * (j + 1 + 1)) (2 * (i + 1 + 1))) (vertex (2 * (k + 1) + 1) (2 * (j + 1) + 1) (2 * (i + 1) + 1)) (omega arith) (omega arith) (omega arith)) ∙ corner_value f (i + 1 + 1) (j + 1 + 1) (k + 1)
 
-  pub centre_13 : around f (vertex (2 * k + 1) (2 * j + 1) (2 * i + 1)) 13 ≡ value f (vertex (2 * k) (2 * j) (2 * i))
-  centre_13 = down f (vertex (2 * k + 1) (2 * j + 1) (2 * i + 1)) (vertex (2 * k) (2 * j) (2 * i)) 6 (omega arith) (omega arith) (corner_inside f.dims i j k (omega arith) (omega arith) (omega arith)) (is_step_6 (vertex (2 * k) (2 * j) (2 * i)) (vertex (2 * k + 1) (2 * j + 1) (2 * i + 1)) (omega arith) (omega arith) (omega arith))
+  centre_11 : around f (vertex (2 * (k + 1) + 1) (2 * (j + 1) + 1) (2 * (i + 1) + 1)) 11 ≡ pos 8 *ℤ corner_difference f (i + 1) (j + 1 + 1) (k + 1)
+  centre_11 = down f (vertex (2 * (k + 1) + 1) (2 * (j + 1) + 1) (2 * (i + 1) + 1)) (vertex (2 * (k + 1)) (2 * (j + 1 + 1)) (2 * (i + 1))) 4 (omega arith) (omega arith) (corner_inside f.dims (i + 1) (j + 1 + 1) (k + 1) (omega arith) (omega arith) (omega arith)) (is_step_4 (vertex (2 * (k + 1)) (2 * (j + 1 + 1)) (2 * (i + 1))) (vertex (2 * (k + 1) + 1) (2 * (j + 1) + 1) (2 * (i + 1) + 1)) (omega arith) (omega arith) (omega arith)) ∙ corner_value f (i + 1) (j + 1 + 1) (k + 1)
 
-  pub centre_14 : around f (vertex (2 * k + 1) (2 * j + 1) (2 * i + 1)) 14 ≡ value f (vertex (2 * (k - 1) + 1) (2 * j + 1) (2 * i + 1))
-  centre_14 = down f (vertex (2 * k + 1) (2 * j + 1) (2 * i + 1)) (vertex (2 * (k - 1) + 1) (2 * j + 1) (2 * i + 1)) 7 (omega arith) (omega arith) (centre_inside f.dims i j (k - 1) (omega arith) (omega arith) (omega arith)) (is_step_7 (vertex (2 * (k - 1) + 1) (2 * j + 1) (2 * i + 1)) (vertex (2 * k + 1) (2 * j + 1) (2 * i + 1)) (omega arith) (omega arith) (omega arith))
+  centre_12 : around f (vertex (2 * (k + 1) + 1) (2 * (j + 1) + 1) (2 * (i + 1) + 1)) 12 ≡ pos 8 *ℤ corner_difference f (i + 1 + 1) (j + 1) (k + 1)
+  centre_12 = down f (vertex (2 * (k + 1) + 1) (2 * (j + 1) + 1) (2 * (i + 1) + 1)) (vertex (2 * (k + 1)) (2 * (j + 1)) (2 * (i + 1 + 1))) 5 (omega arith) (omega arith) (corner_inside f.dims (i + 1 + 1) (j + 1) (k + 1) (omega arith) (omega arith) (omega arith)) (is_step_5 (vertex (2 * (k + 1)) (2 * (j + 1)) (2 * (i + 1 + 1))) (vertex (2 * (k + 1) + 1) (2 * (j + 1) + 1) (2 * (i + 1) + 1)) (omega arith) (omega arith) (omega arith)) ∙ corner_value f (i + 1 + 1) (j + 1) (k + 1)
+
+  centre_13 : around f (vertex (2 * (k + 1) + 1) (2 * (j + 1) + 1) (2 * (i + 1) + 1)) 13 ≡ pos 8 *ℤ corner_difference f (i + 1) (j + 1) (k + 1)
+  centre_13 = down f (vertex (2 * (k + 1) + 1) (2 * (j + 1) + 1) (2 * (i + 1) + 1)) (vertex (2 * (k + 1)) (2 * (j + 1)) (2 * (i + 1))) 6 (omega arith) (omega arith) (corner_inside f.dims (i + 1) (j + 1) (k + 1) (omega arith) (omega arith) (omega arith)) (is_step_6 (vertex (2 * (k + 1)) (2 * (j + 1)) (2 * (i + 1))) (vertex (2 * (k + 1) + 1) (2 * (j + 1) + 1) (2 * (i + 1) + 1)) (omega arith) (omega arith) (omega arith)) ∙ corner_value f (i + 1) (j + 1) (k + 1)
+
+  centre_14 : around f (vertex (2 * (k + 1) + 1) (2 * (j + 1) + 1) (2 * (i + 1) + 1)) 14 ≡ cube_sum f (i + 1) (j + 1) k
+  centre_14 = down f (vertex (2 * (k + 1) + 1) (2 * (j + 1) + 1) (2 * (i + 1) + 1)) (vertex (2 * k + 1) (2 * (j + 1) + 1) (2 * (i + 1) + 1)) 7 (omega arith) (omega arith) (centre_inside f.dims (i + 1) (j + 1) k (omega arith) (omega arith) (omega arith)) (is_step_7 (vertex (2 * k + 1) (2 * (j + 1) + 1) (2 * (i + 1) + 1)) (vertex (2 * (k + 1) + 1) (2 * (j + 1) + 1) (2 * (i + 1) + 1)) (omega arith) (omega arith) (omega arith)) ∙ centre_value f (i + 1) (j + 1) k
+
+  pub around_centre : in_order (centre_star f i j k) ≡ map (around f (vertex (2 * (k + 1) + 1) (2 * (j + 1) + 1) (2 * (i + 1) + 1))) (range_with_len 1 14)
+  around_centre = λ t. sym centre_1 t ∷ sym centre_2 t ∷ sym centre_3 t ∷ sym centre_4 t ∷ sym centre_5 t ∷ sym centre_6 t ∷ sym centre_7 t ∷ sym centre_8 t ∷ sym centre_9 t ∷ sym centre_10 t ∷ sym centre_11 t ∷ sym centre_12 t ∷ sym centre_13 t ∷ sym centre_14 t ∷ []
+
+  pub own_centre : (centre_star f i j k).own ≡ value f (vertex (2 * (k + 1) + 1) (2 * (j + 1) + 1) (2 * (i + 1) + 1))
+  own_centre = sym (centre_value f (i + 1) (j + 1) (k + 1))

@@ -1,19 +1,23 @@
-ghost use Rattle.std.specs.Prelude.{◌≡◌, ℕ, ◌+◌, ◌-◌, ◌*◌, ◌/◌, ◌%◌, ◌^◌, ◌<◌, ◌≤◌, None, length, map, slice_index};
+ghost use Rattle.std.specs.Prelude.{◌≡◌, ℕ, ◌+◌, ◌-◌, ◌*◌, ◌/◌, ◌%◌, ◌^◌, ◌<◌, ◌≤◌, None, IfSome, length, map, slice_index};
 ghost use Rattle.definitions.specs.Lattice.{InDomain, IsDims, layer, layers, vertex, vertices};
 ghost use Rattle.definitions.specs.Layout.{layer_len};
 ghost use Rattle.definitions.specs.States.{code, snapped, state_of};
 ghost use Rattle.lattice_counts.specs.Counts.{row_len, vertex_in_layer};
-ghost use Rattle.snap_rule.specs.Alike.{HasAround};
+ghost use Rattle.snap_rule.specs.Alike.{HasAround, TellAround, vertex_of_row};
 
 use crate::Shares;
-use crate::columns::{Run, first_run, lines_around, with_next};
+use crate::columns::signs_around;
 use crate::vertex::state_at;
 use bcc_lattice::{code, columns, layers, rows, vertex_in_row};
 use definitions::Sign;
-use samples::Field;
+use samples::{Field, SignWords};
 use st_base::{Ledger, Vertex};
 
+/// How many vertices of a row one word tells of.
+const BLOCK: u32 = 61;
+
 /// The code of a vertex of a sign that is not moved.
+#[inline(always)]
 fn sign_code(sign: Sign) -> u64
     ensures { result ≡ code (snapped sign None) }
 {
@@ -24,17 +28,86 @@ fn sign_code(sign: Sign) -> u64
     }
 }
 
-/// The code of a vertex: at once where the run holds all corners around it.
-#[inline]
-fn code_at(field: &Field, shares: Shares, run: Run, v: Vertex) -> u64
+/// The code of a vertex: at once where all corners around it are told to have one sign.
+#[inline(always)]
+#[tactic(auto, using(crate::proofs::Alike::state_of_alike))]
+fn code_at(field: &Field, shares: Shares, told: Option<Sign>, v: Vertex) -> u64
     requires domain { InDomain field.now.dims v }
-    requires run { run.start ≤ v.x / 2 - 1 → HasAround field.now v run.sign }
+    requires told { IfSome told (λ s. HasAround field.now v s) }
     ensures { result ≡ code (state_of field.now shares v) }
 {
-    if run.start <= (v.x / 2).saturating_sub(1) {
-        sign_code(run.sign)
-    } else {
-        code(state_at(field, shares, v))
+    match told {
+        Some(sign) => sign_code(sign),
+        None => code(state_at(field, shares, v)),
+    }
+}
+
+/// Writes the codes of `count` vertices of a row from vertex `i` on, from place `at` on.
+#[inline(always)]
+#[tactic(auto, using(lattice_counts::proofs::Sizes::nx_small, lattice_counts::proofs::Sizes::ny_small))]
+fn write_each(
+    field: &Field,
+    shares: Shares,
+    h: u32,
+    j: u32,
+    i: u32,
+    signs: SignWords,
+    count: u32,
+    at: usize,
+    out: &mut [u64],
+)
+    requires sizes { IsDims field.now.dims }
+    requires layer { h < layers field.now.dims }
+    requires row { j < row_len field.now.dims.ny h }
+    requires columns { i + count ≤ row_len field.now.dims.nx h }
+    requires block { count ≤ 61 }
+    requires signs { TellAround field.now h j i signs }
+    requires room { at + count ≤ length out.old }
+    ensures row { (b : ℕ) → b < count → slice_index out.new (at + b) ≡ code (state_of field.now shares (vertex_of_row h j (i + b))) }
+    ensures below { (k : ℕ) → k < at → slice_index out.new k ≡ slice_index out.old k }
+{
+    for b in 0..count {
+        out[at + b as usize] = code_at(field, shares, signs.sign_at(b), vertex_in_row(h, j, i + b));
+    }
+}
+
+/// Writes one code at `count` places from `at` on.
+#[inline(always)]
+fn write_same(code: u64, count: u32, at: usize, out: &mut [u64])
+    requires room { at + count ≤ length out.old }
+    ensures same { (b : ℕ) → b < count → slice_index out.new (at + b) ≡ code }
+    ensures below { (k : ℕ) → k < at → slice_index out.new k ≡ slice_index out.old k }
+{
+    for b in 0..count {
+        out[at + b as usize] = code;
+    }
+}
+
+/// The same as `write_each`: at once where all vertices are told to have one sign around.
+fn write_block(
+    field: &Field,
+    shares: Shares,
+    h: u32,
+    j: u32,
+    i: u32,
+    count: u32,
+    at: usize,
+    out: &mut [u64],
+)
+    requires sizes { IsDims field.now.dims }
+    requires layer { h < layers field.now.dims }
+    requires row { j < row_len field.now.dims.ny h }
+    requires some { 1 ≤ count }
+    requires columns { i + count ≤ row_len field.now.dims.nx h }
+    requires block { count ≤ 61 }
+    requires room { at + count ≤ length out.old }
+    ensures row { (b : ℕ) → b < count → slice_index out.new (at + b) ≡ code (state_of field.now shares (vertex_of_row h j (i + b))) }
+    ensures below { (k : ℕ) → k < at → slice_index out.new k ≡ slice_index out.old k }
+{
+    let signs = signs_around(field, h, j, i);
+    match signs.first_sign(count) {
+        Some(sign) => write_same(sign_code(sign), count, at, out),
+        None => write_each(field, shares, h, j, i, signs, count, at, out),
     }
 }
 
@@ -46,13 +119,11 @@ fn write_row(field: &Field, shares: Shares, h: u32, j: u32, start: usize, out: &
     ensures row { (i : ℕ) → i < row_len field.now.dims.nx h → slice_index out.new (start + i) ≡ code (state_of field.now shares (vertex h (j * 2 + h % 2) (i * 2 + h % 2))) }
     ensures below { (k : ℕ) → k < start → slice_index out.new k ≡ slice_index out.old k }
 {
-    let lines = lines_around(field, h, j);
-    let ahead = 1 + h % 2;
-    let mut run = first_run(field, lines, ahead);
-    for i in 0..columns(field.dims(), h) {
-        let v = vertex_in_row(h, j, i);
-        run = with_next(field, lines, run, i + ahead);
-        out[start + i as usize] = code_at(field, shares, run, v);
+    let columns = columns(field.dims(), h);
+    for m in 0..(columns + BLOCK - 1) / BLOCK {
+        let i = m * BLOCK;
+        let count = BLOCK.min(columns - i);
+        write_block(field, shares, h, j, i, count, start + i as usize, out);
     }
 }
 

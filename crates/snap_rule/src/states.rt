@@ -94,6 +94,16 @@ impl States {
     {
         has_sign(word(&self.codes, id as usize), sign)
     }
+
+    /// The state of the vertex of an id.
+    #[inline(always)]
+    pub fn state_by_id(&self, id: u32) -> State
+        requires { id < length (vertices self.now.dims) }
+        ensures state { result ≡ state_at self.now.states id }
+        ensures is_state { IsState result }
+    {
+        decode(word(&self.codes, id as usize))
+    }
 }
 
 /// The sign of the state of a word that is a code.

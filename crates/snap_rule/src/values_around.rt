@@ -1,15 +1,16 @@
 ghost use Rattle.std.specs.Prelude.{◌≡◌, ℕ, ◌+◌, ◌*◌, ◌/◌, ◌%◌, ◌^◌, ◌≤◌, unsigned_abs, map, true, All};
 ghost use Rattle.std.specs.List.{range_with_len};
-ghost use Rattle.definitions.specs.Lattice.{InDomain, IsDims, vertex};
+ghost use Rattle.definitions.specs.Lattice.{InDomain, IsDims};
 ghost use Rattle.definitions.specs.Values.{value};
 ghost use Rattle.lattice_laws.specs.NumberedTetrahedra.{IsInner};
+ghost use Rattle.samples.specs.Stars.{IsSmallStar};
 ghost use Rattle.snap_laws.specs.Around.{around};
-ghost use Rattle.snap_rule.specs.Deep.{IsCornerInside, IsCubeInside, IsDeep};
-ghost use Rattle.snap_rule.specs.Near.{IsSmallValue};
+ghost use Rattle.snap_rule.specs.Deep.{IsDeep};
+ghost use Rattle.snap_rule.specs.Near.{IsSmallValue, in_order};
 
 use crate::near::direction_of;
 use bcc_lattice::{Dir, neighbour};
-use samples::Field;
+use samples::{Cube, Field, Star};
 use st_base::{Dims, Vertex};
 
 /// The value at the other end of edge 1 to 14; 0 where that is outside the domain.
@@ -43,105 +44,63 @@ fn around_any(field: &Field, v: Vertex) -> [i64; 14]
     values
 }
 
-/// The value at a corner, counted from the padding corner, which may be known to be of the image.
+/// The values at the other ends of edges 1 to 14, edge by edge.
 #[inline(always)]
-#[tactic(auto, using(samples::proofs::ValuesAt::corner_value))]
-fn corner(field: &Field, deep: bool, i: u32, j: u32, k: u32) -> i64
-    requires { deep ≡ true → IsCornerInside field.now.dims i j k }
-    ensures value { result ≡ value field.now (vertex (2 * k) (2 * j) (2 * i)) }
-    ensures small { unsigned_abs result ≤ 2 ^ 37 }
+fn in_order(star: Star) -> [i64; 14]
+    requires { IsSmallStar star }
+    ensures values { result ≡ in_order star }
+    ensures small { All IsSmallValue result }
 {
-    if deep {
-        8 * field.difference_inside(i, j, k)
-    } else {
-        8 * field.difference(i, j, k)
-    }
+    let Star { x, y, z, short, .. } = star;
+    let Cube { low, high } = short;
+    [
+        x.high,
+        y.high,
+        high.low.low,
+        high.low.high,
+        high.high.low,
+        high.high.high,
+        z.high,
+        x.low,
+        y.low,
+        low.high.high,
+        low.high.low,
+        low.low.high,
+        low.low.low,
+        z.low,
+    ]
 }
 
-/// The value at the centre of a cube, by its least corner; its corners may be known to be of the image.
-#[inline(always)]
-#[tactic(auto, using(samples::proofs::ValuesAt::centre_value))]
-fn centre(field: &Field, deep: bool, i: u32, j: u32, k: u32) -> i64
-    requires deep { deep ≡ true → IsCubeInside field.now.dims i j k }
-    requires i { i ≤ field.now.dims.nx }
-    requires j { j ≤ field.now.dims.ny }
-    requires k { k ≤ field.now.dims.nz }
-    ensures value { result ≡ value field.now (vertex (2 * k + 1) (2 * j + 1) (2 * i + 1)) }
-    ensures small { unsigned_abs result ≤ 2 ^ 37 }
-{
-    if deep {
-        field.cube_inside(i, j, k)
-    } else {
-        field.cube(i, j, k)
-    }
-}
-
-/// The values around a corner of the image, which may be known to be deep inside.
+/// The values at a corner of the image and around it, which may be known to be deep inside.
 #[inline(always)]
 #[tactic(auto, using(lattice_counts::proofs::Sizes::nx_small, lattice_counts::proofs::Sizes::ny_small, lattice_counts::proofs::Sizes::nz_small))]
-fn around_corner(field: &Field, v: Vertex, deep: bool) -> [i64; 14]
+fn corner_star(field: &Field, v: Vertex, deep: bool) -> Star
     requires sizes { IsDims field.now.dims }
     requires domain { InDomain field.now.dims v }
     requires inner { IsInner field.now.dims v }
     requires even { v.h % 2 ≡ 0 }
     requires deep { deep ≡ true → IsDeep field.now.dims v }
-    ensures values { result ≡ map (around field.now v) (range_with_len 1 14) }
-    ensures small { All IsSmallValue result }
+    ensures own { result.own ≡ value field.now v }
+    ensures around { in_order result ≡ map (around field.now v) (range_with_len 1 14) }
+    ensures small { IsSmallStar result }
 {
-    let i = v.x / 2;
-    let j = v.y / 2;
-    let k = v.h / 2;
-    let to_1 = corner(field, deep, i + 1, j, k);
-    let to_2 = corner(field, deep, i, j + 1, k);
-    let to_3 = centre(field, deep, i - 1, j - 1, k);
-    let to_4 = centre(field, deep, i, j - 1, k);
-    let to_5 = centre(field, deep, i - 1, j, k);
-    let to_6 = centre(field, deep, i, j, k);
-    let to_7 = corner(field, deep, i, j, k + 1);
-    let to_8 = corner(field, deep, i - 1, j, k);
-    let to_9 = corner(field, deep, i, j - 1, k);
-    let to_10 = centre(field, deep, i, j, k - 1);
-    let to_11 = centre(field, deep, i - 1, j, k - 1);
-    let to_12 = centre(field, deep, i, j - 1, k - 1);
-    let to_13 = centre(field, deep, i - 1, j - 1, k - 1);
-    let to_14 = corner(field, deep, i, j, k - 1);
-    [
-        to_1, to_2, to_3, to_4, to_5, to_6, to_7, to_8, to_9, to_10, to_11, to_12, to_13, to_14,
-    ]
+    field.corner_star(deep, v.x / 2 - 1, v.y / 2 - 1, v.h / 2 - 1)
 }
 
-/// The values around the centre of a cube of the image, which may be known to be deep inside.
+/// The values at the centre of a cube of the image and around it, which may be known to be deep inside.
 #[inline(always)]
 #[tactic(auto, using(lattice_counts::proofs::Sizes::nx_small, lattice_counts::proofs::Sizes::ny_small, lattice_counts::proofs::Sizes::nz_small))]
-fn around_centre(field: &Field, v: Vertex, deep: bool) -> [i64; 14]
+fn centre_star(field: &Field, v: Vertex, deep: bool) -> Star
     requires sizes { IsDims field.now.dims }
     requires domain { InDomain field.now.dims v }
     requires inner { IsInner field.now.dims v }
     requires odd { v.h % 2 ≡ 1 }
     requires deep { deep ≡ true → IsDeep field.now.dims v }
-    ensures values { result ≡ map (around field.now v) (range_with_len 1 14) }
-    ensures small { All IsSmallValue result }
+    ensures own { result.own ≡ value field.now v }
+    ensures around { in_order result ≡ map (around field.now v) (range_with_len 1 14) }
+    ensures small { IsSmallStar result }
 {
-    let i = v.x / 2;
-    let j = v.y / 2;
-    let k = v.h / 2;
-    let to_1 = centre(field, deep, i + 1, j, k);
-    let to_2 = centre(field, deep, i, j + 1, k);
-    let to_3 = corner(field, deep, i, j, k + 1);
-    let to_4 = corner(field, deep, i + 1, j, k + 1);
-    let to_5 = corner(field, deep, i, j + 1, k + 1);
-    let to_6 = corner(field, deep, i + 1, j + 1, k + 1);
-    let to_7 = centre(field, deep, i, j, k + 1);
-    let to_8 = centre(field, deep, i - 1, j, k);
-    let to_9 = centre(field, deep, i, j - 1, k);
-    let to_10 = corner(field, deep, i + 1, j + 1, k);
-    let to_11 = corner(field, deep, i, j + 1, k);
-    let to_12 = corner(field, deep, i + 1, j, k);
-    let to_13 = corner(field, deep, i, j, k);
-    let to_14 = centre(field, deep, i, j, k - 1);
-    [
-        to_1, to_2, to_3, to_4, to_5, to_6, to_7, to_8, to_9, to_10, to_11, to_12, to_13, to_14,
-    ]
+    field.centre_star(deep, v.x / 2 - 1, v.y / 2 - 1, v.h / 2 - 1)
 }
 
 /// Whether a vertex is a corner of the image or the centre of a cube of it.
@@ -173,23 +132,42 @@ fn is_deep(dims: Dims, v: Vertex) -> bool
         && v.x + 3 <= 2 * dims.nx
 }
 
-/// The values at the other ends of edges 1 to 14 of a vertex.
-pub fn around(field: &Field, v: Vertex) -> [i64; 14]
-    requires { InDomain field.now.dims v }
-    ensures values { result ≡ map (around field.now v) (range_with_len 1 14) }
-    ensures small { All IsSmallValue result }
+/// The values at an inner vertex and around it.
+#[inline(always)]
+fn inner_star(field: &Field, v: Vertex) -> Star
+    requires sizes { IsDims field.now.dims }
+    requires domain { InDomain field.now.dims v }
+    requires inner { IsInner field.now.dims v }
+    ensures own { result.own ≡ value field.now v }
+    ensures around { in_order result ≡ map (around field.now v) (range_with_len 1 14) }
+    ensures small { IsSmallStar result }
 {
-    if !is_inner(field.dims(), v) {
-        around_any(field, v)
-    } else if v.h % 2 == 0 {
-        if is_deep(field.dims(), v) {
-            around_corner(field, v, true)
+    let deep = is_deep(field.dims(), v);
+    if v.h % 2 == 0 {
+        if deep {
+            corner_star(field, v, true)
         } else {
-            around_corner(field, v, false)
+            corner_star(field, v, false)
         }
-    } else if is_deep(field.dims(), v) {
-        around_centre(field, v, true)
+    } else if deep {
+        centre_star(field, v, true)
     } else {
-        around_centre(field, v, false)
+        centre_star(field, v, false)
+    }
+}
+
+/// The value at a vertex, and those at the other ends of its edges 1 to 14.
+pub fn values_at(field: &Field, v: Vertex) -> (i64, [i64; 14])
+    requires { InDomain field.now.dims v }
+    ensures own { result.0 ≡ value field.now v }
+    ensures around { result.1 ≡ map (around field.now v) (range_with_len 1 14) }
+    ensures own_small { IsSmallValue result.0 }
+    ensures small { All IsSmallValue result.1 }
+{
+    if is_inner(field.dims(), v) {
+        let star = inner_star(field, v);
+        (star.own, in_order(star))
+    } else {
+        (field.value(v), around_any(field, v))
     }
 }

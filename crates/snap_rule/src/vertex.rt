@@ -4,7 +4,7 @@ ghost use Rattle.definitions.specs.States.{state_of, IsState};
 
 use crate::Shares;
 use crate::state::state_of_values;
-use crate::values_around::around;
+use crate::values_around::values_at;
 use definitions::State;
 use samples::Field;
 use st_base::{Ledger, Vertex};
@@ -16,7 +16,8 @@ pub fn state_at(field: &Field, shares: Shares, v: Vertex) -> State
     ensures state { result ≡ state_of field.now shares v }
     ensures is_state { IsState result }
 {
-    state_of_values(shares, field.value(v), &around(field, v))
+    let (own, around) = values_at(field, v);
+    state_of_values(shares, own, &around)
 }
 
 /// The state of a vertex, which the ledger counts.

@@ -44,7 +44,7 @@ pub fn stream_lines<D: Desk + Send, G: Gate + Sync, R: Threads + Sync>(
         return Err(PutFault::NoMemory);
     };
     while reached.first < slabs {
-        parts = write_beside(
+        let next = write_beside(
             rt,
             alloc,
             desk,
@@ -56,6 +56,8 @@ pub fn stream_lines<D: Desk + Send, G: Gate + Sync, R: Threads + Sync>(
             gate,
             &mut reached,
         )?;
+        crew.hand_back(parts);
+        parts = next;
     }
     put_parts(desk, port, &parts)?;
     Ok(reached.found)

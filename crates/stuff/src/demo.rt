@@ -35,7 +35,7 @@ fn field_of_demo(alloc: Global, size: u32, seed: u64) -> Result<Field, NoMemory>
         unreachable!()
     };
     let volume = phantom(alloc, size, seed)?;
-    Ok(Field::of_volume(volume, level, false))
+    Field::of_volume(alloc, volume, level, false)
 }
 
 // The report of the mesh of a survey. The lines of the mesh are given up round by round.

@@ -10,7 +10,7 @@ ghost use Rattle.stuff.specs.Refusals.{status_of_volume};
 
 use mha_read::{VolFault, read_head, read_volume};
 use samples::{Field, Level};
-use st_base::{Axis, Desk, HeadFault, Limits, Status, Volume};
+use st_base::{Axis, Desk, HeadFault, Limits, NoMemory, Status, Volume};
 use std::alloc::Global;
 
 /// What is read of an input: the field of its volume, and how its samples stand on the three axes.
@@ -94,8 +94,8 @@ pub fn read_field<D: Desk>(
     ensures apart { OnlyInput D.Desk desk.old desk.new }
 {
     let (volume, axes) = read_input(alloc, desk, world, step)?;
-    Ok(Scan {
-        field: Field::of_volume(volume, level, below),
-        axes,
-    })
+    match Field::of_volume(alloc, volume, level, below) {
+        Ok(field) => Ok(Scan { field, axes }),
+        Err(NoMemory) => Err(Status::NoMemory),
+    }
 }

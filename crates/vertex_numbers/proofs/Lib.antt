@@ -1,4 +1,5 @@
 pub mod Neighbours
+pub mod RowStarts
 pub mod Seven
 pub mod NodesTold
 pub mod PiecesTold

@@ -1,3 +1,4 @@
+pub mod Rows
 pub mod Sources
 pub mod Bits
 pub mod Alike

@@ -3,16 +3,17 @@ ghost use Rattle.definitions.specs.Lattice.{InDomain, IsDims, vertex};
 ghost use Rattle.definitions.specs.States.{sign_of_state};
 ghost use Rattle.vertex_numbers.specs.Around.{sign_towards};
 ghost use Rattle.vertex_numbers.specs.Alike.{AreAlike, HasColumn, IsColumn, IsUp};
+ghost use Rattle.vertex_numbers.specs.Rows.{AreRows, BeginsAt, IsInnerRow};
 ghost use Rattle.vertex_numbers.specs.Sources.{KnowsAround};
 
 use crate::StateSource;
 use crate::around::sign_there;
 use crate::later::has_all_later;
-use bcc_lattice::sign_of;
+use crate::rows::Rows;
 use definitions::Sign;
 use st_base::{Dims, Vertex};
 
-/// Whether a neighbour upwards has a sign.
+/// Whether a neighbour upwards has a sign, where the ids of its row start at `start`.
 #[inline(always)]
 fn is_at<S: StateSource>(
     from: &mut S,
@@ -20,6 +21,7 @@ fn is_at<S: StateSource>(
     v: Vertex,
     number: u8,
     w: Vertex,
+    start: u32,
     sign: Sign,
 ) -> bool
     requires dims { IsDims dims }
@@ -29,21 +31,23 @@ fn is_at<S: StateSource>(
     requires low { 1 ≤ number }
     requires high { number ≤ 7 }
     requires neighbour { IsUp dims v number w }
+    requires start { BeginsAt dims w.h w.y start }
     ensures sign { result ≡ true → sign_towards dims (S.told from.old) v true number ≡ Some sign }
     ensures same { S.unchanged from.old from.new }
 {
-    sign_there(from, dims, v, number, w) == sign
+    sign_there(from, dims, v, number, w, start) == sign
 }
 
 /// Whether the vertices of a column in the layer above a vertex have its sign.
 #[inline(always)]
 #[tactic(auto, using(lattice_counts::proofs::Sizes::nx_small, lattice_counts::proofs::Sizes::ny_small, lattice_counts::proofs::Sizes::nz_small, crate::proofs::Upwards::up_3, crate::proofs::Upwards::up_5))]
-fn is_above<S: StateSource>(from: &mut S, dims: Dims, v: Vertex, sign: Sign) -> bool
+fn is_above<S: StateSource>(from: &mut S, dims: Dims, v: Vertex, rows: Rows, sign: Sign) -> bool
     requires dims { IsDims dims }
     requires sizes { S.sizes from.old ≡ dims }
     requires domain { InDomain dims v }
     requires known { KnowsAround dims (S.knows from.old) v.h }
     requires column { HasColumn dims v }
+    requires rows { AreRows dims v.h v.y rows }
     ensures third { result ≡ true → sign_towards dims (S.told from.old) v true 3 ≡ Some sign }
     ensures fifth { result ≡ true → sign_towards dims (S.told from.old) v true 5 ≡ Some sign }
     ensures same { S.unchanged from.old from.new }
@@ -59,8 +63,8 @@ fn is_above<S: StateSource>(from: &mut S, dims: Dims, v: Vertex, sign: Sign) -> 
         y: y + 1,
         x: x - 1,
     };
-    if is_at(from, dims, v, 3, third, sign) {
-        is_at(from, dims, v, 5, fifth, sign)
+    if is_at(from, dims, v, 3, third, rows.third, sign) {
+        is_at(from, dims, v, 5, fifth, rows.fifth, sign)
     } else {
         false
     }
@@ -69,12 +73,13 @@ fn is_above<S: StateSource>(from: &mut S, dims: Dims, v: Vertex, sign: Sign) -> 
 /// Whether the vertices of a column in the layer of a vertex and in the second above it have its sign.
 #[inline(always)]
 #[tactic(auto, using(lattice_counts::proofs::Sizes::nx_small, lattice_counts::proofs::Sizes::ny_small, lattice_counts::proofs::Sizes::nz_small, crate::proofs::Upwards::up_2, crate::proofs::Upwards::up_7))]
-fn is_beside<S: StateSource>(from: &mut S, dims: Dims, v: Vertex, sign: Sign) -> bool
+fn is_beside<S: StateSource>(from: &mut S, dims: Dims, v: Vertex, rows: Rows, sign: Sign) -> bool
     requires dims { IsDims dims }
     requires sizes { S.sizes from.old ≡ dims }
     requires domain { InDomain dims v }
     requires known { KnowsAround dims (S.knows from.old) v.h }
     requires column { HasColumn dims v }
+    requires rows { AreRows dims v.h v.y rows }
     ensures second { result ≡ true → sign_towards dims (S.told from.old) v true 2 ≡ Some sign }
     ensures seventh { result ≡ true → sign_towards dims (S.told from.old) v true 7 ≡ Some sign }
     ensures same { S.unchanged from.old from.new }
@@ -82,8 +87,8 @@ fn is_beside<S: StateSource>(from: &mut S, dims: Dims, v: Vertex, sign: Sign) ->
     let Vertex { h, y, x } = v;
     let seventh = Vertex { h: h + 2, y, x };
     let second = Vertex { h, y: y + 2, x };
-    if is_at(from, dims, v, 7, seventh, sign) {
-        is_at(from, dims, v, 2, second, sign)
+    if is_at(from, dims, v, 7, seventh, rows.seventh, sign) {
+        is_at(from, dims, v, 2, second, rows.second, sign)
     } else {
         false
     }
@@ -91,20 +96,21 @@ fn is_beside<S: StateSource>(from: &mut S, dims: Dims, v: Vertex, sign: Sign) ->
 
 /// The sign that the vertices of a column have, if they have one.
 #[inline(always)]
-fn column_sign<S: StateSource>(from: &mut S, dims: Dims, v: Vertex) -> Option<Sign>
+fn column_sign<S: StateSource>(from: &mut S, dims: Dims, v: Vertex, rows: Rows) -> Option<Sign>
     requires dims { IsDims dims }
     requires sizes { S.sizes from.old ≡ dims }
     requires domain { InDomain dims v }
     requires known { KnowsAround dims (S.knows from.old) v.h }
     requires column { HasColumn dims v }
+    requires rows { AreRows dims v.h v.y rows }
     ensures column { IfSome result (IsColumn dims (S.told from.old) v) }
     ensures same { S.unchanged from.old from.new }
 {
-    let own = sign_of(from.state(v));
-    if !is_beside(from, dims, v, own) {
+    let own = from.sign_by_id(v, rows.own + v.x / 2);
+    if !is_beside(from, dims, v, rows, own) {
         return None;
     }
-    if is_above(from, dims, v, own) {
+    if is_above(from, dims, v, rows, own) {
         Some(own)
     } else {
         None
@@ -129,13 +135,20 @@ pub struct Seen {
     pub next: Option<Sign>,
 }
 
-/// Follows a row by one vertex. `here` is the sign of its column, where it is known to have one.
+/// Follows a row by one vertex; `rows` are the starts around it. `here` is the sign of its column, where it is known to have one.
 #[inline(always)]
-pub fn follow<S: StateSource>(from: &mut S, dims: Dims, v: Vertex, here: Option<Sign>) -> Seen
+pub fn follow<S: StateSource>(
+    from: &mut S,
+    dims: Dims,
+    v: Vertex,
+    rows: Rows,
+    here: Option<Sign>,
+) -> Seen
     requires dims { IsDims dims }
     requires sizes { S.sizes from.old ≡ dims }
     requires domain { InDomain dims v }
     requires known { KnowsAround dims (S.knows from.old) v.h }
+    requires rows { IsInnerRow dims v.h v.y → AreRows dims v.h v.y rows }
     requires here { IfSome here (IsColumn dims (S.told from.old) v) }
     ensures alike { IfSome result.alike (AreAlike dims (S.told from.old) v) }
     ensures next { IfSome result.next (IsColumn dims (S.told from.old) (vertex v.h v.y (v.x + 2))) }
@@ -148,7 +161,7 @@ pub fn follow<S: StateSource>(from: &mut S, dims: Dims, v: Vertex, here: Option<
         };
     }
     let Vertex { h, y, x } = v;
-    let next = column_sign(from, dims, Vertex { h, y, x: x + 2 });
+    let next = column_sign(from, dims, Vertex { h, y, x: x + 2 }, rows);
     Seen {
         alike: common(here, next),
         next,

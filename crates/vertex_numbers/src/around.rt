@@ -5,10 +5,12 @@ ghost use Rattle.definitions.specs.Stencils.{is_plus};
 ghost use Rattle.vertex_numbers.specs.Alike.{HasColumn, IsUp};
 ghost use Rattle.vertex_numbers.specs.Later.{HasAllLater};
 ghost use Rattle.vertex_numbers.specs.Around.{sign_towards, signs_towards, is_plus_there, has_plus_there};
+ghost use Rattle.vertex_numbers.specs.Rows.{BeginsAt};
 ghost use Rattle.vertex_numbers.specs.Sources.{KnowsAround};
 
 use crate::StateSource;
 use crate::later::has_all_later;
+use crate::rows::rows_around;
 use bcc_lattice::{Dir, neighbour, sign_of};
 use definitions::Sign;
 use st_base::{Dims, Vertex};
@@ -58,7 +60,7 @@ pub fn sign_towards<S: StateSource>(
     }
 }
 
-/// The sign of a neighbour upwards that is known to be in the domain.
+/// The sign of a neighbour upwards that is known to be in the domain, where the ids of its row start at `start`.
 #[inline(always)]
 pub fn sign_there<S: StateSource>(
     from: &mut S,
@@ -66,6 +68,7 @@ pub fn sign_there<S: StateSource>(
     _v: Vertex,
     _number: u8,
     w: Vertex,
+    start: u32,
 ) -> Sign
     requires dims { IsDims _dims }
     requires sizes { S.sizes from.old ≡ _dims }
@@ -74,10 +77,11 @@ pub fn sign_there<S: StateSource>(
     requires low { 1 ≤ _number }
     requires high { _number ≤ 7 }
     requires neighbour { IsUp _dims _v _number w }
+    requires start { BeginsAt _dims w.h w.y start }
     ensures sign { sign_towards _dims (S.told from.old) _v true _number ≡ Some result }
     ensures same { S.unchanged from.old from.new }
 {
-    sign_of(from.state(w))
+    from.sign_by_id(w, start + w.x / 2)
 }
 
 /// The signs upwards of a vertex, where all its neighbours upwards are in the domain.
@@ -94,9 +98,10 @@ fn signs_within<S: StateSource>(from: &mut S, dims: Dims, v: Vertex) -> [Option<
     ensures same { S.unchanged from.old from.new }
 {
     let Vertex { h, y, x } = v;
+    let rows = rows_around(dims, h, y);
     let (above, below, right) = (y + 1, y - 1, x + 1);
-    let first = sign_there(from, dims, v, 1, Vertex { h, y, x: x + 2 });
-    let second = sign_there(from, dims, v, 2, Vertex { h, y: y + 2, x });
+    let first = sign_there(from, dims, v, 1, Vertex { h, y, x: x + 2 }, rows.own);
+    let second = sign_there(from, dims, v, 2, Vertex { h, y: y + 2, x }, rows.second);
     let left = x - 1;
     let up = h + 1;
     let third = sign_there(
@@ -109,6 +114,7 @@ fn signs_within<S: StateSource>(from: &mut S, dims: Dims, v: Vertex) -> [Option<
             y: below,
             x: left,
         },
+        rows.third,
     );
     let fourth = sign_there(
         from,
@@ -120,6 +126,7 @@ fn signs_within<S: StateSource>(from: &mut S, dims: Dims, v: Vertex) -> [Option<
             y: below,
             x: right,
         },
+        rows.third,
     );
     let fifth = sign_there(
         from,
@@ -131,6 +138,7 @@ fn signs_within<S: StateSource>(from: &mut S, dims: Dims, v: Vertex) -> [Option<
             y: above,
             x: left,
         },
+        rows.fifth,
     );
     let sixth = sign_there(
         from,
@@ -142,8 +150,9 @@ fn signs_within<S: StateSource>(from: &mut S, dims: Dims, v: Vertex) -> [Option<
             y: above,
             x: right,
         },
+        rows.fifth,
     );
-    let seventh = sign_there(from, dims, v, 7, Vertex { h: h + 2, y, x });
+    let seventh = sign_there(from, dims, v, 7, Vertex { h: h + 2, y, x }, rows.seventh);
     [
         Some(first),
         Some(second),

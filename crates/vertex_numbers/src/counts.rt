@@ -5,6 +5,7 @@ ghost use Rattle.definitions.specs.Mesh.{ArePadded, layer_node_keys, layer_piece
 ghost use Rattle.lattice_counts.specs.Counts.{row_len};
 ghost use Rattle.vertex_numbers.specs.Alike.{AreAlike, IsColumn};
 ghost use Rattle.vertex_numbers.specs.Counts.{nodes_at_id, pieces_at_id, row_ids, vertex_nodes, vertex_pieces};
+ghost use Rattle.vertex_numbers.specs.Rows.{AreRows, IsInnerRow};
 ghost use Rattle.vertex_numbers.specs.Sources.{Agrees, KnowsAround};
 
 use crate::StateSource;
@@ -12,6 +13,7 @@ use crate::alike::follow;
 use crate::around::signs_around;
 use crate::nodes::nodes_around;
 use crate::pieces::pieces_up;
+use crate::rows::{Rows, rows_around};
 use bcc_lattice::{columns, rows, vertex_in_row};
 use definitions::Sign;
 use st_base::{Dims, Vertex};
@@ -81,11 +83,18 @@ struct Counted {
 
 /// What a vertex adds, where `here` is the sign of its column, if it is known to have one.
 #[inline(always)]
-fn count_next<S: StateSource>(from: &mut S, dims: Dims, v: Vertex, here: Option<Sign>) -> Counted
+fn count_next<S: StateSource>(
+    from: &mut S,
+    dims: Dims,
+    v: Vertex,
+    rows: Rows,
+    here: Option<Sign>,
+) -> Counted
     requires dims { IsDims dims }
     requires sizes { S.sizes from.old ≡ dims }
     requires domain { InDomain dims v }
     requires known { KnowsAround dims (S.knows from.old) v.h }
+    requires rows { IsInnerRow dims v.h v.y → AreRows dims v.h v.y rows }
     requires here { IfSome here (IsColumn dims (S.told from.old) v) }
     ensures nodes { result.share.nodes ≡ vertex_nodes dims (S.told from.old) v }
     ensures tets { result.share.tets ≡ vertex_pieces dims (S.told from.old) v }
@@ -94,7 +103,7 @@ fn count_next<S: StateSource>(from: &mut S, dims: Dims, v: Vertex, here: Option<
     ensures next { IfSome result.next (IsColumn dims (S.told from.old) (vertex v.h v.y (v.x + 2))) }
     ensures same { S.unchanged from.old from.new }
 {
-    let seen = follow(from, dims, v, here);
+    let seen = follow(from, dims, v, rows, here);
     let share = share_of(from, dims, v, seen.alike);
     Counted {
         share,
@@ -117,10 +126,11 @@ fn share_of_row<S: StateSource>(from: &mut S, dims: Dims, h: u32, j: u32) -> Sha
     ensures same { S.unchanged from.old from.new }
 {
     let mut share = Share { nodes: 0, tets: 0 };
+    let rows = rows_around(dims, h, j * 2 + h % 2);
     let mut here: Option<Sign> = None;
     for i in 0..columns(dims, h) {
         let v = vertex_in_row(h, j, i);
-        let more = count_next(from, dims, v, here);
+        let more = count_next(from, dims, v, rows, here);
         here = more.next;
         share.nodes += more.share.nodes;
         share.tets += more.share.tets;

@@ -8,6 +8,7 @@ mod later;
 mod nodes;
 mod offsets;
 mod pieces;
+mod rows;
 mod source;
 mod starts;
 

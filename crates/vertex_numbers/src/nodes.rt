@@ -7,11 +7,13 @@ ghost use Rattle.definitions.specs.States.{sign_of_state};
 ghost use Rattle.vertex_numbers.specs.Alike.{AreAlike, IsColumn};
 ghost use Rattle.vertex_numbers.specs.Around.{signs_towards, has_plus_there, crosses, is_node, node_towards, nodes_of};
 ghost use Rattle.vertex_numbers.specs.Bits.{bits};
+ghost use Rattle.vertex_numbers.specs.Rows.{AreRows, IsInnerRow};
 ghost use Rattle.vertex_numbers.specs.Sources.{Agrees, KnowsAround};
 
 use crate::StateSource;
 use crate::alike::follow;
 use crate::around::{Around, has_plus, has_plus_towards, lacks_plus, sign_towards, signs_around};
+use crate::rows::Rows;
 use bcc_lattice::{sign_of, vertex_of};
 use definitions::Sign;
 use st_base::{Dims, Vertex};
@@ -113,17 +115,24 @@ pub struct Noted {
 
 /// The nodes at a vertex, where `here` is the sign of its column, if it is known to have one.
 #[inline(always)]
-pub fn nodes_next<S: StateSource>(from: &mut S, dims: Dims, v: Vertex, here: Option<Sign>) -> Noted
+pub fn nodes_next<S: StateSource>(
+    from: &mut S,
+    dims: Dims,
+    v: Vertex,
+    rows: Rows,
+    here: Option<Sign>,
+) -> Noted
     requires dims { IsDims dims }
     requires sizes { S.sizes from.old ≡ dims }
     requires domain { InDomain dims v }
     requires known { KnowsAround dims (S.knows from.old) v.h }
+    requires rows { IsInnerRow dims v.h v.y → AreRows dims v.h v.y rows }
     requires here { IfSome here (IsColumn dims (S.told from.old) v) }
     ensures nodes { result.bits ≡ bits (nodes_of dims (S.told from.old) v) }
     ensures next { IfSome result.next (IsColumn dims (S.told from.old) (vertex v.h v.y (v.x + 2))) }
     ensures same { S.unchanged from.old from.new }
 {
-    let seen = follow(from, dims, v, here);
+    let seen = follow(from, dims, v, rows, here);
     let bits = nodes_by_signs(from, dims, v, seen.alike);
     Noted {
         bits,

@@ -1,4 +1,4 @@
-ghost use Rattle.std.specs.Prelude.{◌≡◌, ◌≤◌, ◌<◌, ◌+◌, ◌*◌, length, IfOk, IfSome, OnOk};
+ghost use Rattle.std.specs.Prelude.{◌≡◌, ◌≤◌, ◌<◌, ◌+◌, ◌-◌, ◌*◌, length, slice_index, IfOk, IfSome, OnOk};
 ghost use Rattle.std.specs.List.{list_any, range_with_len};
 ghost use Rattle.definitions.specs.Lattice.{InDomain, IsDims, id, layers, vertex};
 ghost use Rattle.definitions.specs.Layout.{layer_start};
@@ -7,10 +7,12 @@ ghost use Rattle.lattice_counts.specs.Counts.{row_len};
 ghost use Rattle.node_laws.specs.Used.{told};
 ghost use Rattle.vertex_numbers.specs.Alike.{IsColumn};
 ghost use Rattle.vertex_numbers.specs.Counts.{layer_counts, row_start};
+ghost use Rattle.vertex_numbers.specs.Rows.{AreRows, IsInnerRow};
 ghost use Rattle.vertex_numbers.specs.Numbering.{HoldsKey, IsDraft, IsEmpty, NumbersIds, NumbersMesh, mesh_bits, nodes_before, number_in, used_in};
 
 use crate::Offsets;
 use crate::nodes::{Noted, nodes_next};
+use crate::rows::{Rows, rows_around};
 use bcc_lattice::{columns, ids_below, layers, rows, vertex_in_row};
 use definitions::Sign;
 use snap_rule::States;
@@ -31,6 +33,7 @@ pub struct Starts {
 
 impl Model for Starts {
     ghost use Rattle.std.specs.Prelude.{length};
+    ghost use Rattle.vertex_numbers.specs.Rows.{AreRows, IsInnerRow};
     ghost use Rattle.vertex_numbers.specs.Numbering.{AreStarts, Numbering};
 
     ghost Value = { Numbering };
@@ -59,17 +62,18 @@ pub struct Numbered {
 /// The bits of the nodes at a vertex, and the sign of the next column along its row, if it has one; `here` is the sign
 /// of the vertex's own column, if it is known to have one.
 #[inline(always)]
-fn bits_next(states: &States, dims: Dims, v: Vertex, here: Option<Sign>) -> Noted
+fn bits_next(states: &States, dims: Dims, v: Vertex, rows: Rows, here: Option<Sign>) -> Noted
     requires dims { dims ≡ states.now.dims }
     requires sizes { IsDims dims }
     requires padded { ArePadded states.now.dims states.now.states }
     requires domain { InDomain dims v }
+    requires rows { IsInnerRow dims v.h v.y → AreRows dims v.h v.y rows }
     requires here { IfSome here (IsColumn dims (told dims states.now.states) v) }
     ensures bits { result.bits ≡ mesh_bits dims states.now.states (id dims v) }
     ensures next { IfSome result.next (IsColumn dims (told dims states.now.states) (vertex v.h v.y (v.x + 2))) }
 {
     let mut source = states;
-    nodes_next(&mut source, dims, v, here)
+    nodes_next(&mut source, dims, v, rows, here)
 }
 
 /// The starts of no ids yet, from an id on before which so many nodes stand.
@@ -102,9 +106,10 @@ fn push_row(states: &States, h: u32, j: u32, draft: &mut Draft) -> Result<(), No
     ensures first { draft.new.first ≡ draft.old.first }
 {
     let dims = states.dims();
+    let rows = rows_around(dims, h, j * 2 + h % 2);
     let mut here: Option<Sign> = None;
     for i in 0..columns(dims, h) {
-        let noted = bits_next(states, dims, vertex_in_row(h, j, i), here);
+        let noted = bits_next(states, dims, vertex_in_row(h, j, i), rows, here);
         here = noted.next;
         if draft.before.push(draft.count).is_err() || draft.nodes.push(noted.bits).is_err() {
             return Err(NoMemory);
@@ -270,5 +275,15 @@ impl Starts {
         let at = (key / 8 - self.first) as usize;
         let below = self.nodes[at] % (1 << (key % 8));
         self.before[at] + below.count_ones()
+    }
+
+    /// The bits of the nodes at one of these vertices: bit 0 of itself, bits 1 to 7 of the cuts in directions 1 to 7.
+    #[inline(always)]
+    pub fn bits(&self, id: u32) -> u8
+        requires low { self.now.first ≤ id }
+        requires high { id < self.now.first + self.now.len }
+        ensures { result ≡ slice_index self.now.nodes (id - self.now.first) }
+    {
+        self.nodes[(id - self.first) as usize]
     }
 }

@@ -5,7 +5,7 @@ use Rattle.definitions.specs.Mesh.{node_place}
 use Rattle.bcc_lattice.proofs.NextVertex.{next_has_id}
 use Rattle.mesh_lists.specs.Parts.{keys_of_ids}
 use Rattle.mesh_lists.proofs.NodePlaces.{keys_of_more, keys_of_none, keys_of_one}
-use Rattle.mesh_lists.proofs.Walks.{in_walk, small_id}
+use Rattle.mesh_lists.proofs.Walks.{in_walk}
 use Rattle.mesh_lists.proofs.places.places_of.Goals as goal
 
 pub loop-id-init : goal.loop-id-init
@@ -19,11 +19,6 @@ push_nodes-requires-clause-domain c = (in_walk c.args.field.now.dims c.loop-id.v
 
 pub push_nodes-requires-clause-id : goal.push_nodes-requires-clause-id
 push_nodes-requires-clause-id c = (in_walk c.args.field.now.dims c.loop-id.v c.loop-id.id c.args.end c.loop-id-test.true c.requires.within c.loop-id.invariant.at).number
-
-pub push_nodes-requires-clause-small : goal.push_nodes-requires-clause-small
-push_nodes-requires-clause-small c =
-    let h = in_walk c.args.field.now.dims c.loop-id.v c.loop-id.id c.args.end c.loop-id-test.true c.requires.within c.loop-id.invariant.at in
-    small_id c.args.field.now.dims c.loop-id.v c.loop-id.id c.dims-dims.ensures.field.sizes h
 
 pub next_vertex-v-requires-clause-domain : goal.next_vertex-v-requires-clause-domain
 next_vertex-v-requires-clause-domain c =

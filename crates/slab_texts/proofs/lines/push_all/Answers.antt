@@ -1,29 +1,20 @@
-use Rattle.std.proofs.Common.{ℕ, ◌+◌, [], List, arith, sym, subst, take}
-use Rattle.std.proofs.lemmas.List.{take_all, take_more}
-use Rattle.slab_texts.specs.Texts.{Adds}
-use Rattle.slab_texts.proofs.Measured.{one_measured}
-use Rattle.slab_texts.proofs.Pieces.{more, none}
+use Rattle.std.proofs.Common.{ℕ, ◌+◌, ◌++◌, ◌∙◌, ap, length}
+use Rattle.std.specs.Prelude.{flat_map}
+use Rattle.std.specs.List.{enumerate_from}
+use Rattle.definitions.specs.Angles.{angles_of, extremes_of}
 use Rattle.slab_texts.proofs.lines.push_all.Goals as goal
 
-pub loop-n-init : goal.loop-n-init
-loop-n-init c = record { adds = none c.args.nodes.now c.args.out.now; few = omega arith }
-
-pub push_tet-requires-clause-among : goal.push_tet-requires-clause-among
-push_tet-requires-clause-among c = c.requires.among c.loop-n.n _ c.loop-n-test.true
-
-pub push_tet-requires-clause-measured : goal.push_tet-requires-clause-measured
-push_tet-requires-clause-measured c = one_measured c.args.nodes.now c.args.tets.now c.loop-n.n [] c.loop-n-test.true c.requires.measured
-
-pub loop-n-preserved : goal.loop-n-preserved
-loop-n-preserved c =
-    let n = c.loop-n.n in
-    record {
-      adds =
-          more c.args.nodes.now c.args.out.now c.loop-n.out c.push_tet.new.out (take n c.args.tets.now) _ (take (n + 1) c.args.tets.now)
-          (sym (take_more c.args.tets.now n [] c.loop-n-test.true))
-          c.loop-n.invariant.adds c.in_ok-push_tet.ensures.adds;
-      few = (let a = c.loop-n.invariant.few in let b = c.push_tet.ensures.few in omega arith);
-    }
+pub push_text-requires-clause-small : goal.push_text-requires-clause-small
+push_text-requires-clause-small c = λ k d lt i z short. (c.requires.among k d lt i z short).small
 
 pub returns-clause-adds : goal.returns-clause-adds
-returns-clause-adds c = subst (λ (ts : List (List ℕ)). Adds c.args.nodes.now c.args.out.now ts c.loop-n.out) (take_all c.loop-n.n c.args.tets.now c.loop-n-test.false) c.loop-n.invariant.adds
+returns-clause-adds c = λ all r.
+    record {
+      text = c.in_ok-push_text.ensures.text;
+      writes = c.push_text.ensures.writes;
+      numbering = c.push_text.ensures.numbering;
+      number = ap (λ (k : ℕ). k + length c.args.tets.now) c.push_text.ensures.number;
+      angles = λ xs e.
+          c.take_all.ensures all r xs (c.push_text.ensures.angles ∙ e)
+          ∙ ap (λ n. extremes_of (xs ++ flat_map (angles_of all) (enumerate_from n c.args.tets.now))) c.push_text.ensures.number;
+    }

@@ -5,7 +5,7 @@ use Rattle.bcc_lattice.proofs.NextVertex.{next_has_id}
 use Rattle.mesh_texts.specs.Nodes.{Node, node_of_key}
 use Rattle.mesh_lists.specs.Parts.{keys_at, keys_of_ids}
 use Rattle.mesh_lists.proofs.NodePlaces.{keys_of_more, keys_of_none, keys_of_one}
-use Rattle.mesh_lists.proofs.Walks.{in_walk, small_id}
+use Rattle.mesh_lists.proofs.Walks.{in_walk}
 use Rattle.slab_texts.specs.NodeLines.{AddsNodes}
 use Rattle.slab_texts.proofs.NodeLines.{more_nodes, no_nodes}
 use Rattle.slab_texts.proofs.node_lines.push_lines.Goals as goal
@@ -25,11 +25,6 @@ push_nodes-requires-clause-domain c = (in_walk c.args.field.now.dims c.loop-id.v
 
 pub push_nodes-requires-clause-id : goal.push_nodes-requires-clause-id
 push_nodes-requires-clause-id c = (in_walk c.args.field.now.dims c.loop-id.v c.loop-id.id c.args.end c.loop-id-test.true c.requires.within c.loop-id.invariant.at).number
-
-pub push_nodes-requires-clause-small : goal.push_nodes-requires-clause-small
-push_nodes-requires-clause-small c =
-    let h = in_walk c.args.field.now.dims c.loop-id.v c.loop-id.id c.args.end c.loop-id-test.true c.requires.within c.loop-id.invariant.at in
-    small_id c.args.field.now.dims c.loop-id.v c.loop-id.id c.dims-dims.ensures.field.sizes h
 
 pub push_nodes-requires-clause-room : goal.push_nodes-requires-clause-room
 push_nodes-requires-clause-room c = fits _ _ _ _ _ c.loop-id.invariant.few c.loop-id-test.true c.loop-id.auto.id c.requires.room

@@ -14,11 +14,11 @@ use Rattle.stream_write.proofs.lines.stream_lines.Goals as goal
 pub next_round-requires-clause-reached : goal.next_round-requires-clause-reached
 next_round-requires-clause-reached g c κs within = none_reached c.args.lines c.args.source.now (subst (λ n. n ≤ 2 ^ 23) c.slabs-slabs.ensures.slabs c.slabs-slabs.ensures.small) c.slabs-slabs.ensures.measured
 
-pub returns-in_err-parts-clause-puts : goal.returns-in_err-parts-clause-puts
-returns-in_err-parts-clause-puts g c =
+pub returns-in_err-next-clause-puts : goal.returns-in_err-next-clause-puts
+returns-in_err-next-clause-puts g c =
     let i = c.loop-reached.invariant in
     let e = c.write_beside.ensures.puts in
-    let part = subst (λ (ps : List Part). AppendsPart (g.D.Desk.ports c.loop-reached.desk c.args.port).text (g.D.Desk.ports c.write_beside.new.desk c.args.port).text (text_of ps)) c.deref.ensures.value c.in_err-parts.ensures.puts.part in
+    let part = subst (λ (ps : List Part). AppendsPart (g.D.Desk.ports c.loop-reached.desk c.args.port).text (g.D.Desk.ports c.write_beside.new.desk c.args.port).text (text_of ps)) c.deref.ensures.value c.in_err-next.ensures.puts.part in
     record {
       all = search rules;
       part =
@@ -35,11 +35,11 @@ returns-in_err-parts-clause-puts g c =
 pub loop-reached-preserved : goal.loop-reached-preserved
 loop-reached-preserved g c =
     let i = c.loop-reached.invariant in
-    let e = c.in_ok-parts.ensures.puts in
-    let round = c.in_ok-parts.ensures.round in
+    let e = c.in_ok-next.ensures.puts in
+    let round = c.in_ok-next.ensures.round in
     let all = subst (λ (ps : List Part). Appends (g.D.Desk.ports c.loop-reached.desk c.args.port).text (g.D.Desk.ports c.write_beside.new.desk c.args.port).text (text_of ps)) c.deref.ensures.value e.all in
     record {
-      pending = went c.args.lines c.args.source.now (g.D.Desk.ports c.args.desk.now c.args.port).text (g.D.Desk.ports c.loop-reached.desk c.args.port).text (g.D.Desk.ports c.write_beside.new.desk c.args.port).text c.loop-reached.parts.items c.in_ok-parts.parts.items c.loop-reached.reached c.write_beside.new.reached i.pending all round.parts round.first;
+      pending = went c.args.lines c.args.source.now (g.D.Desk.ports c.args.desk.now c.args.port).text (g.D.Desk.ports c.loop-reached.desk c.args.port).text (g.D.Desk.ports c.write_beside.new.desk c.args.port).text c.loop-reached.parts.items c.in_ok-next.next.items c.loop-reached.reached c.write_beside.new.reached i.pending all round.parts round.first;
       reached = round.reached;
       crew = omega arith;
       faults = search rules;
