@@ -74,7 +74,7 @@ impl Field {
         })
     }
 
-    /// The same of a volume that is given up: its samples are taken over, and no memory is asked for.
+    /// The same of a volume that is given up: its samples are taken over, and memory is asked for their signs alone.
     #[tactic(auto, using(crate::proofs::Fields::field_of_parts, crate::proofs::Fields::few_samples))]
     pub fn of_volume(
         alloc: Global,

@@ -14,7 +14,7 @@ pub struct Tools {
 }
 
 impl Tools {
-    /// Tools, which take two thirds of a mebibyte.
+    /// Tools, which take the two mebibytes of a pen.
     pub fn new(alloc: Global) -> Result<Tools, NoMemory> {
         Ok(Tools {
             pen: Pen::new(alloc)?,
