@@ -1,46 +1,36 @@
--- A node and seven others: the six tetrahedra that they are the nodes of, and the shapes of these.
-use Rattle.std.specs.Prelude.{◌≡◌, List, [], ◌∷◌, Option, pos, ◌<ℤ◌}
-use Rattle.definitions.specs.declared.Extremes.{Extremes}
+-- The star of a vertex that has neighbours upwards in all directions: the six lattice tetrahedra of which it is the lowest vertex, where it and these stand at their lattice places.
+use Rattle.std.specs.Prelude.{ℕ, List, [], ◌∷◌, pos, ◌*ℤ◌}
 use Rattle.definitions.specs.declared.Place.{Place}
-use Rattle.definitions.specs.Vectors.{det, minus}
-use Rattle.dihedral.specs.declared.seven.Seven.{Seven}
+use Rattle.definitions.specs.Cuts.{scale}
+use Rattle.definitions.specs.Lattice.{step}
+use Rattle.definitions.specs.Places.{along, place}
 use Rattle.dihedral.specs.declared.shape.Shape.{Shape}
-use Rattle.bcc_lattice.specs.Bounds.{IsSmallPlace}
-use Rattle.determinants.specs.Bounds.{AreNear}
-use Rattle.dihedral.specs.Shapes.{Covers, shape_by}
+use Rattle.dihedral.specs.Shapes.{shape_by}
 
--- vectors from a place to others, where these are near to it
-pub record AreAround (own : Place) (others vectors : Seven) : Type 0 where
-  pub first : IsSmallPlace 12286 (minus others.first own) → vectors.first ≡ minus others.first own
-  pub second : IsSmallPlace 12286 (minus others.second own) → vectors.second ≡ minus others.second own
-  pub third : IsSmallPlace 12286 (minus others.third own) → vectors.third ≡ minus others.third own
-  pub fourth : IsSmallPlace 12286 (minus others.fourth own) → vectors.fourth ≡ minus others.fourth own
-  pub fifth : IsSmallPlace 12286 (minus others.fifth own) → vectors.fifth ≡ minus others.fifth own
-  pub sixth : IsSmallPlace 12286 (minus others.sixth own) → vectors.sixth ≡ minus others.sixth own
-  pub seventh : IsSmallPlace 12286 (minus others.seventh own) → vectors.seventh ≡ minus others.seventh own
+-- the place of a vertex's neighbour upwards in a direction, and the vector to it
+abbrev pub neighbour_of : Place → ℕ → Place
+neighbour_of own dir = along own (step dir) scale
 
--- the shapes of the six
-abbrev pub six_shapes : Seven → List Shape
-six_shapes v =
-    shape_by v.first v.sixth v.fourth
-    ∷ shape_by v.second v.fifth v.sixth
-    ∷ shape_by v.third v.fourth v.seventh
-    ∷ shape_by v.third v.seventh v.fifth
-    ∷ shape_by v.fourth v.sixth v.seventh
-    ∷ shape_by v.fifth v.seventh v.sixth
+abbrev pub vector_to : ℕ → Place
+vector_to dir = place ((step dir).x *ℤ pos scale) ((step dir).y *ℤ pos scale) ((step dir).h *ℤ pos scale)
+
+-- the places of the six, their volumes above zero, and their shapes
+abbrev pub star_at : Place → List (List Place)
+star_at own =
+    (own ∷ neighbour_of own 1 ∷ neighbour_of own 6 ∷ neighbour_of own 4 ∷ [])
+    ∷ (own ∷ neighbour_of own 2 ∷ neighbour_of own 5 ∷ neighbour_of own 6 ∷ [])
+    ∷ (own ∷ neighbour_of own 3 ∷ neighbour_of own 4 ∷ neighbour_of own 7 ∷ [])
+    ∷ (own ∷ neighbour_of own 3 ∷ neighbour_of own 7 ∷ neighbour_of own 5 ∷ [])
+    ∷ (own ∷ neighbour_of own 4 ∷ neighbour_of own 6 ∷ neighbour_of own 7 ∷ [])
+    ∷ (own ∷ neighbour_of own 5 ∷ neighbour_of own 7 ∷ neighbour_of own 6 ∷ [])
     ∷ []
 
--- the six
-abbrev pub six_around : Place → Seven → List (List Place)
-six_around own v =
-    (own ∷ v.first ∷ v.sixth ∷ v.fourth ∷ [])
-    ∷ (own ∷ v.second ∷ v.fifth ∷ v.sixth ∷ [])
-    ∷ (own ∷ v.third ∷ v.fourth ∷ v.seventh ∷ [])
-    ∷ (own ∷ v.third ∷ v.seventh ∷ v.fifth ∷ [])
-    ∷ (own ∷ v.fourth ∷ v.sixth ∷ v.seventh ∷ [])
-    ∷ (own ∷ v.fifth ∷ v.seventh ∷ v.sixth ∷ [])
+abbrev pub star_shapes : List Shape
+star_shapes =
+    shape_by (vector_to 1) (vector_to 6) (vector_to 4)
+    ∷ shape_by (vector_to 2) (vector_to 5) (vector_to 6)
+    ∷ shape_by (vector_to 3) (vector_to 4) (vector_to 7)
+    ∷ shape_by (vector_to 3) (vector_to 7) (vector_to 5)
+    ∷ shape_by (vector_to 4) (vector_to 6) (vector_to 7)
+    ∷ shape_by (vector_to 5) (vector_to 7) (vector_to 6)
     ∷ []
-
--- the angles of a tetrahedron, if it has some, are within the extremes
-abbrev pub IsKnown : Option Extremes → List Place → Type 0
-IsKnown found tet = AreNear tet → pos 0 <ℤ det tet → Covers found tet

@@ -25,12 +25,11 @@ mod fractions;
 mod pair;
 mod remembering;
 mod running;
-mod seven;
 mod shape;
+mod star;
 
 pub use angles::edge_cosine;
 pub use definitions::{Cosine, Extreme, Extremes, Place};
 pub use extremes::{extremes_of, fold};
 pub use fractions::compare;
 pub use remembering::Remembering;
-pub use seven::Seven;

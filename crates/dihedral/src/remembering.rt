@@ -1,37 +1,38 @@
 ghost use Rattle.std.specs.Prelude.{◌≡◌, ◌++◌, ℕ, List, None, pos, ◌<ℤ◌, IsTrue, All};
 ghost use Rattle.std.specs.Option.{ForSome};
 ghost use Rattle.definitions.specs.declared.Extreme.{Extreme};
+ghost use Rattle.definitions.specs.declared.Place.{Place};
 ghost use Rattle.definitions.specs.Angles.{extremes_of};
 ghost use Rattle.definitions.specs.Vectors.{det};
 ghost use Rattle.determinants.specs.Bounds.{AreNear};
 ghost use Rattle.dihedral.specs.Fractions.{AreFractions};
-ghost use Rattle.dihedral.specs.Shapes.{CoversShape};
-ghost use Rattle.dihedral.specs.Stars.{IsKnown, six_around};
+ghost use Rattle.dihedral.specs.Shapes.{Covers, CoversShape};
+ghost use Rattle.dihedral.specs.Stars.{star_at};
 ghost use Rattle.dihedral.specs.TetAngles.{six_angles};
 
 use crate::bounded::Bounded;
-use crate::seven::Seven;
 use crate::shape::{SHAPES, Shape};
+use crate::star::star_shapes;
 use definitions::{Extremes, Place};
 use std::marker::Model;
 
 /// The extremes of the angles of tetrahedra so far, which are taken one after another.
 ///
 /// In most meshes most tetrahedra are whole lattice tetrahedra. Their six shapes are remembered once one of each was
-/// taken, and another of one of these costs a comparison; `star` has the shapes of the six tetrahedra at a vertex that
-/// was learned, so that all six cost one. Contracts see what [`Remembering::found`] gives.
+/// taken, and another of one of these costs a comparison; `knows_star` says that all six were, so that the six at a
+/// vertex cost nothing. Contracts see what [`Remembering::found`] gives.
 ///
 /// To take a tetrahedron of a remembered shape changes nothing.
 #[derive(Drop)]
 pub struct Remembering {
     running: Bounded,
     seen: [Shape; SHAPES],
-    star: Seven,
+    knows_star: bool,
 }
 
 impl Model for Remembering {
-    ghost use Rattle.std.specs.Prelude.{All, Option};
-    ghost use Rattle.dihedral.specs.Stars.{six_shapes};
+    ghost use Rattle.std.specs.Prelude.{All, IsTrue, Option};
+    ghost use Rattle.dihedral.specs.Stars.{star_shapes};
     ghost use Rattle.definitions.specs.declared.Extremes.{Extremes};
     ghost use Rattle.dihedral.specs.Shapes.{CoversShape};
 
@@ -39,7 +40,7 @@ impl Model for Remembering {
 
     ghost view = { λ r. r.running };
 
-    ghost invariant = { λ r. All (CoversShape r.running) r.seen × All (CoversShape r.running) (six_shapes r.star) };
+    ghost invariant = { λ r. All (CoversShape r.running) r.seen × (IsTrue r.knows_star → All (CoversShape r.running) star_shapes) };
 }
 
 impl Remembering {
@@ -50,7 +51,7 @@ impl Remembering {
         Remembering {
             running: Bounded::new(),
             seen: [Shape::point(); SHAPES],
-            star: Seven::point(),
+            knows_star: false,
         }
     }
 
@@ -72,28 +73,27 @@ impl Remembering {
         self.has(&shape)
     }
 
-    /// Whether the six tetrahedra of a node and seven others have remembered shapes.
+    /// Whether the six lattice tetrahedra at a vertex are known, wherever it stands: then taking them changes nothing.
     #[inline(always)]
-    pub fn knows_six(&self, own: Place, others: &Seven) -> bool
-        ensures { IsTrue result → All (IsKnown self.now) (six_around own others.now) }
+    pub fn knows_star(&self) -> bool
+        ensures { IsTrue result → (own : Place) → All (Covers self.now) (star_at own) }
     {
-        let vectors = Seven::around(own, others);
-        self.star.is(&vectors)
+        self.knows_star
     }
 
-    /// Remembers the six tetrahedra of a node and seven others, if each has a remembered shape.
-    pub fn learn(&mut self, own: Place, others: &Seven)
+    /// Notes whether the six lattice tetrahedra at a vertex have remembered shapes.
+    pub fn learn_star(&mut self)
         ensures { self.new ≡ self.old }
     {
-        let v = Seven::around(own, others);
-        if self.has(&Shape::by(v.first, v.sixth, v.fourth))
-            && self.has(&Shape::by(v.second, v.fifth, v.sixth))
-            && self.has(&Shape::by(v.third, v.fourth, v.seventh))
-            && self.has(&Shape::by(v.third, v.seventh, v.fifth))
-            && self.has(&Shape::by(v.fourth, v.sixth, v.seventh))
-            && self.has(&Shape::by(v.fifth, v.seventh, v.sixth))
+        let [a, b, c, d, e, f] = star_shapes();
+        if self.has(&a)
+            && self.has(&b)
+            && self.has(&c)
+            && self.has(&d)
+            && self.has(&e)
+            && self.has(&f)
         {
-            self.star = v;
+            self.knows_star = true;
         }
     }
 

@@ -1,5 +1,6 @@
 ghost use Rattle.std.specs.Prelude.{◌≡◌, ◌<◌, ◌≤◌, ◌-ℤ◌, unsigned_abs, IsTrue};
 ghost use Rattle.definitions.specs.declared.Place.{Place};
+ghost use Rattle.definitions.specs.Places.{place};
 ghost use Rattle.determinants.specs.Bounds.{AreNear};
 
 use definitions::Place;
@@ -15,9 +16,9 @@ pub(crate) struct Shape {
     pub(crate) fourth: Place,
 }
 
-/// Whether two places are one.
+// Whether two places are one.
 #[inline(always)]
-pub(crate) fn same(p: Place, q: Place) -> bool
+fn same(p: Place, q: Place) -> bool
     ensures { IsTrue result → p ≡ q }
 {
     p.x == q.x && p.y == q.y && p.z == q.z
@@ -31,9 +32,9 @@ fn less(a: i64, b: i64) -> i64
     a.wrapping_sub(b)
 }
 
-/// The vector from `p` to `q`, where they are near to one another.
+// The vector from `p` to `q`, where they are near to one another.
 #[inline(always)]
-pub(crate) fn from_to(p: Place, q: Place) -> Place
+fn from_to(p: Place, q: Place) -> Place
     ensures x { unsigned_abs (q.x -ℤ p.x) ≤ 12286 → result.x ≡ q.x -ℤ p.x }
     ensures y { unsigned_abs (q.y -ℤ p.y) ≤ 12286 → result.y ≡ q.y -ℤ p.y }
     ensures z { unsigned_abs (q.z -ℤ p.z) ≤ 12286 → result.z ≡ q.z -ℤ p.z }
@@ -43,6 +44,14 @@ pub(crate) fn from_to(p: Place, q: Place) -> Place
         y: less(q.y, p.y),
         z: less(q.z, p.z),
     }
+}
+
+/// The vector with these coordinates.
+#[inline(always)]
+pub(crate) fn vector(x: i64, y: i64, z: i64) -> Place
+    ensures { result ≡ place x y z }
+{
+    Place { x, y, z }
 }
 
 // Whether a vector leads from a vertex of the lattice to another.

@@ -136,15 +136,6 @@ impl Cells {
         vertex_count(self.dims) as usize + h as usize
     }
 
-    // The word of a vertex.
-    fn word(&self, v: Vertex) -> usize
-        requires { InDomain self.now.subject.field.dims v }
-        ensures word { result ≡ id_of self.now.subject.field.dims v }
-        ensures within { result < self.now.id.words }
-    {
-        id(self.dims, v) as usize
-    }
-
     /// Whether a layer's flag is up. If it is, the seat knows the layer from now on.
     pub fn look(&self, seat: &mut CellSeat, h: u32) -> bool
         requires table { seat.old.of ≡ self.now }
@@ -157,17 +148,18 @@ impl Cells {
         found != 0
     }
 
-    /// Sets the state of a vertex, if no seat has set it.
-    pub fn put(&self, seat: &mut CellSeat, v: Vertex, code: u64)
+    /// Sets the state of a vertex, which has this id, if no seat has set it.
+    #[inline(always)]
+    pub fn put(&self, seat: &mut CellSeat, _v: Vertex, id: u32, code: u64)
         requires table { seat.old.of ≡ self.now }
-        requires domain { InDomain self.now.subject.field.dims v }
-        requires code { code ≡ code_of (state_at self.now.subject.field self.now.subject.shares v) }
-        ensures { seat.new ≡ seat_put seat.old (id_of self.now.subject.field.dims v) }
+        requires domain { InDomain self.now.subject.field.dims _v }
+        requires id { id ≡ id_of self.now.subject.field.dims _v }
+        requires code { code ≡ code_of (state_at self.now.subject.field self.now.subject.shares _v) }
+        ensures { seat.new ≡ seat_put seat.old id }
     {
-        let word = self.word(v);
         self.table
             .shared
-            .compare_exchange::<Put>(&mut seat.seat, word, 0, code);
+            .compare_exchange::<Put>(&mut seat.seat, id as usize, 0, code);
     }
 
     /// Raises the flag of a layer that this seat put whole, and whose flag its last look found down.

@@ -1,9 +1,10 @@
 -- Where the nodes of a vertex stand, and the list of nodes with one more.
-use Rattle.std.proofs.Common.{◌≡◌, ℕ, ◌+◌, ◌-◌, ◌*◌, ◌/◌, ◌%◌, ◌<◌, ◌≤◌, ◌==◌, zero, suc, arith, refl, sym, subst, ◌∙◌, ap, cond, Bool, true, false, List, [], ◌∷◌, ◌++◌, map, length, append_assoc, inl, inr, eq-zero-or-pos}
+use Rattle.std.proofs.Common.{◌≡◌, ℕ, ◌+◌, ◌-◌, ◌*◌, ◌/◌, ◌%◌, ◌^◌, ◌<◌, ◌≤◌, ◌==◌, zero, suc, arith, refl, sym, subst, ◌∙◌, ap, cond, Bool, true, false, List, [], ◌∷◌, ◌++◌, map, length, append-nil, append_assoc, inl, inr, eq-zero-or-pos}
 use Rattle.std.specs.Prelude.{if◌then◌else◌, filter, slice_index}
 use Rattle.std.specs.List.{range_with_len}
 use Rattle.std.proofs.lemmas.Bool.Decides.{nat_tests}
 use Rattle.std.proofs.lemmas.List.{map-append}
+use Rattle.std.proofs.Math.Nat.{zero-div}
 use Rattle.bcc_lattice.specs.Directions.{IsDirection}
 use Rattle.definitions.specs.declared.Dims.{Dims}
 use Rattle.definitions.specs.declared.Vertex.{Vertex}
@@ -153,3 +154,39 @@ module _ (d : Dims) (ss : List State) where
   pub keys_of_all : (n : ℕ) → n ≡ length (vertices d) → keys_of_ids d ss 0 (n - 0) ≡ node_keys d ss
   unfolding keys_of_ids node_keys
   keys_of_all n e = ap (λ m. filter occ (range_with_len 0 (8 * m))) ((let z : n - 0 ≡ n = omega arith in z) ∙ e)
+
+-- ---- vertices without nodes
+
+no_bit : (k : ℕ) → has_bit 0 k ≡ false
+no_bit k = ap (λ n. n % 2 == 1) (zero-div (2 ^ k))
+
+-- no key of theirs occurs
+pub none_by_bits : (d : Dims) (ss : List State) (n : Numbering) (id : ℕ) → TellsUsed d ss n → n.first ≤ id → id < n.first + n.len → slice_index n.nodes (id - n.first) ≡ 0 →
+    (k : ℕ) → k < 8 → occurs (all_pieces d ss) (8 * id + k) ≡ false
+none_by_bits d ss n id used low high none k lt = bits_tell d ss n id k used low high lt ∙ ap (λ b. has_bit b k) none ∙ no_bit k
+
+none_pass : (p : ℕ → Bool) (a n : ℕ) → ((k : ℕ) → k < n → p (a + k) ≡ false) → filter p (range_with_len a n) ≡ []
+none_pass p a zero h = refl
+none_pass p a (suc n) h =
+    ap (λ b. cond b (a ∷ filter p (range_with_len (a + 1) n)) (filter p (range_with_len (a + 1) n))) (ap p (let e : a ≡ a + 0 = omega arith in e) ∙ h 0 (omega arith))
+    ∙ none_pass p (a + 1) n (λ k lt. ap p (one k) ∙ h (k + 1) (omega arith))
+  where
+    one : (k : ℕ) → a + 1 + k ≡ a + (k + 1)
+    one k = omega arith
+
+-- the keys of some ids, and of more whose vertices have no nodes
+module _ (d : Dims) (ss : List State) (n : Numbering) (used : TellsUsed d ss n) (a b : ℕ) (le : a ≤ b) (low : n.first ≤ b) where
+  pub keys_over : (g : ℕ) → b + g ≤ n.first + n.len → ((m : ℕ) → b ≤ m → m < b + g → slice_index n.nodes (m - n.first) ≡ 0) → keys_of_ids d ss a (b - a) ≡ keys_of_ids d ss a (b + g - a)
+  keys_over zero within none = ap (λ m. keys_of_ids d ss a (m - a)) (let e : b ≡ b + 0 = omega arith in e)
+  keys_over (suc g) within none =
+      keys_over g (omega arith) (λ m lo hi. none m lo (omega arith))
+      ∙ sym (append-nil (keys_of_ids d ss a (b + g - a)))
+      ∙ ap (λ ks. keys_of_ids d ss a (b + g - a) ++ ks)
+      (sym (none_pass (occurs (all_pieces d ss)) (8 * (b + g)) 8 (none_by_bits d ss n (b + g) used (omega arith) (omega arith) (none (b + g) (omega arith) (omega arith)))) ∙ keys_of_one d ss (b + g) 8 refl)
+      ∙ keys_of_more d ss a (b + g) (omega arith)
+      ∙ ap (λ m. keys_of_ids d ss a (m - a)) (let e : b + g + 1 ≡ b + suc g = omega arith in e)
+
+  pub keys_past : (c : ℕ) → b ≤ c → c ≤ n.first + n.len → ((m : ℕ) → b ≤ m → m < c → slice_index n.nodes (m - n.first) ≡ 0) → keys_of_ids d ss a (b - a) ≡ keys_of_ids d ss a (c - a)
+  keys_past c more within none =
+      let e : b + (c - b) ≡ c = omega arith in
+      keys_over (c - b) (omega arith) (λ m lo hi. none m lo (omega arith)) ∙ ap (λ k. keys_of_ids d ss a (k - a)) e

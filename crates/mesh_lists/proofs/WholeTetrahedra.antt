@@ -32,7 +32,7 @@ use Rattle.vertex_numbers.specs.Later.{AreBelow}
 use Rattle.vertex_numbers.specs.Numbering.{HoldsKey, Numbering, number_in}
 use Rattle.vertex_numbers.proofs.NodesTold.{node_occurs}
 use Rattle.mesh_lists.specs.Layers.{AreFrom, NumbersLayers}
-use Rattle.mesh_lists.specs.Parts.{AreNumbers, IsWhole, numbered_from, whole_tets}
+use Rattle.mesh_lists.specs.Parts.{AreNumbers, ArePlusNodes, IsPlusTowards, IsWhole, numbered_from, whole_tets}
 use Rattle.mesh_lists.proofs.LowestNodes.{from_lowest}
 use Rattle.mesh_lists.proofs.Layers.{vertex_held}
 
@@ -177,22 +177,22 @@ there_is d v dir n e = go (neighbour d v dir true) refl e
     go None f g = cc
     go (Some w) f g = record { there = w; leads = f; number = cc }
 
-module _ (d : Dims) (ss : List State) (padded : ArePadded d ss) (n : Numbering) (g : ℕ) (h : NumbersLayers d ss g n) where
-  -- a Plus vertex is a node
-  plus_occurs : (w : Vertex) → InDomain d w → sign_of_state (state_at ss (id d w)) ≡ Plus → occurs (all_pieces d ss) (8 * id d w) ≡ true
-  plus_occurs w inside p =
-      ap (occurs (all_pieces d ss)) (from_none (8 * id d w))
-      ∙ sym (node_occurs d (λ _. ⊤) (told d ss) ss (λ u i k. refl) w inside (λ g p q r. tt) padded 0 (omega arith))
-      ∙ (λ i. is_node (p i) (has_plus_there (signs_towards d (told d ss) w true) || has_plus_there (signs_towards d (told d ss) w false)))
-    where
-      from_none : (m : ℕ) → m ≡ m + 0
-      from_none m = omega arith
+-- a Plus vertex is a node
+pub plus_occurs : (d : Dims) (ss : List State) → ArePadded d ss → (w : Vertex) → InDomain d w → sign_of_state (state_at ss (id d w)) ≡ Plus → occurs (all_pieces d ss) (8 * id d w) ≡ true
+plus_occurs d ss padded w inside p =
+    ap (occurs (all_pieces d ss)) (from_none (8 * id d w))
+    ∙ sym (node_occurs d (λ _. ⊤) (told d ss) ss (λ u i k. refl) w inside (λ g p q r. tt) padded 0 (omega arith))
+    ∙ (λ i. is_node (p i) (has_plus_there (signs_towards d (told d ss) w true) || has_plus_there (signs_towards d (told d ss) w false)))
+  where
+    from_none : (m : ℕ) → m ≡ m + 0
+    from_none m = omega arith
 
+module _ (d : Dims) (ss : List State) (padded : ArePadded d ss) (n : Numbering) (g : ℕ) (h : NumbersLayers d ss g n) where
   plus_number : (w : Vertex) (m number : ℕ) → InDomain d w → g ≤ w.h → w.h ≤ g + 2 → id d w ≡ m → sign_of_state (state_at ss m) ≡ Plus → number ≡ number_in n (8 * m) → number_of (node_keys d ss) (8 * id d w) ≡ number
   plus_number w m number inside low high e p q =
       let r = vertex_held d g n.first (n.first + n.len) w h.hold inside low high in
       let here : HoldsKey n (8 * id d w) = record { low = subst (λ (i : ℕ). n.first ≤ i) (eighth (id d w)) r.0; high = subst (λ (i : ℕ). i < n.first + n.len) (eighth (id d w)) r.1 } in
-      sym (q ∙ ap (λ i. number_in n (8 * i)) (sym e) ∙ h.number (8 * id d w) here (plus_occurs w inside (ap (λ i. sign_of_state (state_at ss i)) e ∙ p)))
+      sym (q ∙ ap (λ i. number_in n (8 * i)) (sym e) ∙ h.number (8 * id d w) here (plus_occurs d ss padded w inside (ap (λ i. sign_of_state (state_at ss i)) e ∙ p)))
     where
       eighth : (i : ℕ) → i ≡ 8 * i / 8
       eighth i = omega arith
@@ -245,9 +245,16 @@ module _ (d : Dims) (ss : List State) (padded : ArePadded d ss) (n : Numbering) 
         let h7 = one_held 7 ids.seventh t7 (near_7 ids.seventh t7) in
         (record { first = h1.0; second = h2.0; third = h3.0; fourth = h4.0; fifth = h5.0; sixth = h6.0; seventh = h7.0 }, record { first = h1.1; second = h2.1; third = h3.1; fourth = h4.1; fifth = h5.1; sixth = h6.1; seventh = h7.1 })
 
+    plus_towards : (dir m number : ℕ) (t : IsThere d v dir m) → (g ≤ t.there.h) × (t.there.h ≤ g + 2) → sign_of_state (state_at ss m) ≡ Plus → number ≡ number_in n (8 * m) → IsPlusTowards d ss v dir number
+    plus_towards dir m number t near p e = record {
+      there = t.there;
+      leads = t.leads;
+      node = record { plus = ap (λ j. sign_of_state (state_at ss j)) t.number ∙ p; is = sym (plus_number t.there m number (inside_of dir m t) near.0 near.1 t.number p e) };
+    }
+
     module _ (numbers : Later) (own : ℕ) (own_is : own ≡ number_in n (8 * id d v)) (are : AreNumbers n ids numbers) where
-      pub whole_numbers : numbered_from d ss v ≡ whole_tets own numbers
-      whole_numbers =
+      pub plus_nodes : ArePlusNodes d ss v own numbers
+      plus_nodes =
           let l = w.later in
           let s = w.signs in
           let t1 = there_is d v 1 ids.first l.first in
@@ -257,16 +264,29 @@ module _ (d : Dims) (ss : List State) (padded : ArePadded d ss) (n : Numbering) 
           let t5 = there_is d v 5 ids.fifth l.fifth in
           let t6 = there_is d v 6 ids.sixth l.sixth in
           let t7 = there_is d v 7 ids.seventh l.seventh in
-          let plus = λ (i : ℕ) (m : ℕ) (e : i ≡ m) (p : sign_of_state (state_at ss m) ≡ Plus). ap (λ j. sign_of_state (state_at ss j)) e ∙ p in
-          let n0 = plus_number v (id d v) own inside (omega arith) (omega arith) refl s.own_sign own_is in
-          let n1 = plus_number t1.there ids.first numbers.first (inside_of 1 ids.first t1) (near_1 ids.first t1).0 (near_1 ids.first t1).1 t1.number s.first are.first in
-          let n2 = plus_number t2.there ids.second numbers.second (inside_of 2 ids.second t2) (near_2 ids.second t2).0 (near_2 ids.second t2).1 t2.number s.second are.second in
-          let n3 = plus_number t3.there ids.third numbers.third (inside_of 3 ids.third t3) (near_3 ids.third t3).0 (near_3 ids.third t3).1 t3.number s.third are.third in
-          let n4 = plus_number t4.there ids.fourth numbers.fourth (inside_of 4 ids.fourth t4) (near_4 ids.fourth t4).0 (near_4 ids.fourth t4).1 t4.number s.fourth are.fourth in
-          let n5 = plus_number t5.there ids.fifth numbers.fifth (inside_of 5 ids.fifth t5) (near_5 ids.fifth t5).0 (near_5 ids.fifth t5).1 t5.number s.fifth are.fifth in
-          let n6 = plus_number t6.there ids.sixth numbers.sixth (inside_of 6 ids.sixth t6) (near_6 ids.sixth t6).0 (near_6 ids.sixth t6).1 t6.number s.sixth are.sixth in
-          let n7 = plus_number t7.there ids.seventh numbers.seventh (inside_of 7 ids.seventh t7) (near_7 ids.seventh t7).0 (near_7 ids.seventh t7).1 t7.number s.seventh are.seventh in
-          ap (map (map (number_of (node_keys d ss))))
-          (six_pieces d ss v t1.there t2.there t3.there t4.there t5.there t6.there t7.there inside t1.leads t2.leads t3.leads t4.leads t5.leads t6.leads t7.leads
-          s.own_sign (plus _ _ t1.number s.first) (plus _ _ t2.number s.second) (plus _ _ t3.number s.third) (plus _ _ t4.number s.fourth) (plus _ _ t5.number s.fifth) (plus _ _ t6.number s.sixth) (plus _ _ t7.number s.seventh))
-          ∙ (λ i. (n0 i ∷ n1 i ∷ n6 i ∷ n4 i ∷ []) ∷ (n0 i ∷ n2 i ∷ n5 i ∷ n6 i ∷ []) ∷ (n0 i ∷ n3 i ∷ n4 i ∷ n7 i ∷ []) ∷ (n0 i ∷ n3 i ∷ n7 i ∷ n5 i ∷ []) ∷ (n0 i ∷ n4 i ∷ n6 i ∷ n7 i ∷ []) ∷ (n0 i ∷ n5 i ∷ n7 i ∷ n6 i ∷ []) ∷ [])
+          record {
+            node = record { plus = s.own_sign; is = sym (plus_number v (id d v) own inside (omega arith) (omega arith) refl s.own_sign own_is) };
+            first = plus_towards 1 ids.first numbers.first t1 (near_1 ids.first t1) s.first are.first;
+            second = plus_towards 2 ids.second numbers.second t2 (near_2 ids.second t2) s.second are.second;
+            third = plus_towards 3 ids.third numbers.third t3 (near_3 ids.third t3) s.third are.third;
+            fourth = plus_towards 4 ids.fourth numbers.fourth t4 (near_4 ids.fourth t4) s.fourth are.fourth;
+            fifth = plus_towards 5 ids.fifth numbers.fifth t5 (near_5 ids.fifth t5) s.fifth are.fifth;
+            sixth = plus_towards 6 ids.sixth numbers.sixth t6 (near_6 ids.sixth t6) s.sixth are.sixth;
+            seventh = plus_towards 7 ids.seventh numbers.seventh t7 (near_7 ids.seventh t7) s.seventh are.seventh;
+          }
+
+-- their pieces, by their numbers
+pub whole_numbers : (d : Dims) (ss : List State) (v : Vertex) (own : ℕ) (numbers : Later) → InDomain d v → ArePlusNodes d ss v own numbers → numbered_from d ss v ≡ whole_tets own numbers
+whole_numbers d ss v own numbers inside p =
+    let n0 = sym p.node.is in
+    let n1 = sym p.first.node.is in
+    let n2 = sym p.second.node.is in
+    let n3 = sym p.third.node.is in
+    let n4 = sym p.fourth.node.is in
+    let n5 = sym p.fifth.node.is in
+    let n6 = sym p.sixth.node.is in
+    let n7 = sym p.seventh.node.is in
+    ap (map (map (number_of (node_keys d ss))))
+    (six_pieces d ss v p.first.there p.second.there p.third.there p.fourth.there p.fifth.there p.sixth.there p.seventh.there inside p.first.leads p.second.leads p.third.leads p.fourth.leads p.fifth.leads p.sixth.leads p.seventh.leads
+    p.node.plus p.first.node.plus p.second.node.plus p.third.node.plus p.fourth.node.plus p.fifth.node.plus p.sixth.node.plus p.seventh.node.plus)
+    ∙ (λ i. (n0 i ∷ n1 i ∷ n6 i ∷ n4 i ∷ []) ∷ (n0 i ∷ n2 i ∷ n5 i ∷ n6 i ∷ []) ∷ (n0 i ∷ n3 i ∷ n4 i ∷ n7 i ∷ []) ∷ (n0 i ∷ n3 i ∷ n7 i ∷ n5 i ∷ []) ∷ (n0 i ∷ n4 i ∷ n6 i ∷ n7 i ∷ []) ∷ (n0 i ∷ n5 i ∷ n7 i ∷ n6 i ∷ []) ∷ [])

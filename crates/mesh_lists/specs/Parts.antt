@@ -1,16 +1,17 @@
 -- Parts of the mesh: the nodes of a vertex, and pieces by the numbers of their nodes.
-use Rattle.std.specs.Prelude.{◌≡◌, ℕ, ◌*◌, List, [], ◌∷◌, filter, flat_map, length, map}
+use Rattle.std.specs.Prelude.{◌≡◌, ℕ, ◌*◌, true, List, [], ◌∷◌, Some, filter, flat_map, length, map}
 use Rattle.std.specs.List.{range_with_len}
 use Rattle.definitions.specs.declared.Dims.{Dims}
 use Rattle.definitions.specs.declared.Vertex.{Vertex}
 use Rattle.definitions.specs.declared.Place.{Place}
 use Rattle.definitions.specs.declared.Sign.TheVariants.{Plus}
 use Rattle.definitions.specs.declared.State.{State}
-use Rattle.definitions.specs.Lattice.{id, vertices}
+use Rattle.definitions.specs.Lattice.{id, neighbour, vertices}
 use Rattle.definitions.specs.Values.{Field}
 use Rattle.definitions.specs.Tetrahedra.{tets_from}
 use Rattle.definitions.specs.Places.{cut_place}
-use Rattle.definitions.specs.Mesh.{Mesh, all_pieces, edge_cut, node_keys, node_place, number_of, occurs, tet_pieces}
+use Rattle.definitions.specs.Mesh.{Mesh, all_pieces, edge_cut, node_keys, node_place, number_of, occurs, state_at, tet_pieces}
+use Rattle.definitions.specs.States.{sign_of_state}
 use Rattle.vertex_numbers.specs.declared.Later.{Later}
 use Rattle.vertex_numbers.specs.Later.{AreBelow, AreLater, HaveSign}
 use Rattle.vertex_numbers.specs.Numbering.{Numbering, number_in}
@@ -72,3 +73,25 @@ pub record IsWhole (d : Dims) (ss : List State) (v : Vertex) (ids : Later) : Typ
   pub later : AreLater d v ids
   pub below : AreBelow (length (vertices d)) ids
   pub signs : HaveSign ss (id d v) ids Plus
+
+-- the vertex is Plus, and has this number as a node
+pub record IsPlusNode (d : Dims) (ss : List State) (v : Vertex) (number : ℕ) : Type 0 where
+  pub plus : sign_of_state (state_at ss (id d v)) ≡ Plus
+  pub is : number ≡ number_of (node_keys d ss) (8 * id d v)
+
+-- the same of a vertex's neighbour upwards in a direction
+pub record IsPlusTowards (d : Dims) (ss : List State) (v : Vertex) (dir number : ℕ) : Type 0 where
+  pub there : Vertex
+  pub leads : neighbour d v dir true ≡ Some there
+  pub node : IsPlusNode d ss there number
+
+-- the numbers are those of a vertex and of its neighbours upwards in all directions, and it and they are all Plus
+pub record ArePlusNodes (d : Dims) (ss : List State) (v : Vertex) (own : ℕ) (later : Later) : Type 0 where
+  pub node : IsPlusNode d ss v own
+  pub first : IsPlusTowards d ss v 1 later.first
+  pub second : IsPlusTowards d ss v 2 later.second
+  pub third : IsPlusTowards d ss v 3 later.third
+  pub fourth : IsPlusTowards d ss v 4 later.fourth
+  pub fifth : IsPlusTowards d ss v 5 later.fifth
+  pub sixth : IsPlusTowards d ss v 6 later.sixth
+  pub seventh : IsPlusTowards d ss v 7 later.seventh

@@ -15,7 +15,7 @@ use samples::Field;
 use snap_rule::States;
 use st_base::{NoMemory, Place, Vertex};
 use std::alloc::Global;
-use vertex_numbers::Starts;
+use vertex_numbers::{Starts, Walk};
 
 /// The number of the cut on the edge from a vertex with value `own` in a direction, 0 where there is none.
 #[inline(always)]
@@ -164,10 +164,10 @@ pub fn places_of(
     let Ok(mut places) = Vec::with_capacity(alloc, count as usize) else {
         return Err(NoMemory);
     };
-    let mut v = v;
-    for id in start..end {
-        push_nodes(field, states, starts, v, id, &mut places)?;
-        v = next_vertex(dims, v);
+    let mut at = Walk::from(starts, dims, v, start, end);
+    while at.id < end {
+        push_nodes(field, states, starts, at.v, at.id, &mut places)?;
+        at = Walk::from(starts, dims, next_vertex(dims, at.v), at.id + 1, end);
     }
     Ok(places)
 }

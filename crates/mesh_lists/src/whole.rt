@@ -2,7 +2,7 @@ ghost use Rattle.std.specs.Prelude.{◌≡◌, ◌+◌, ◌*◌, ◌<◌, ◌^�
 ghost use Rattle.definitions.specs.Lattice.{InDomain, id as id_of, vertices};
 ghost use Rattle.definitions.specs.Mesh.{ArePadded};
 ghost use Rattle.mesh_lists.specs.Layers.{AreFrom, NumbersLayers};
-ghost use Rattle.mesh_lists.specs.Parts.{AreNumbers, IsWhole, numbered_from, whole_tets};
+ghost use Rattle.mesh_lists.specs.Parts.{AreNumbers, ArePlusNodes, IsWhole, numbered_from, whole_tets};
 ghost use Rattle.vertex_numbers.specs.Later.{AreBelow};
 ghost use Rattle.vertex_numbers.specs.Numbering.{number_in};
 
@@ -72,7 +72,7 @@ fn whole_at(states: &States, v: Vertex, id: u32) -> Option<Later>
     requires id { id ≡ id_of states.now.dims v }
     ensures { IfSome result (IsWhole states.now.dims states.now.states v) }
 {
-    let ids = later_ids(states.dims(), v)?;
+    let ids = later_ids(states.dims(), v, id)?;
     if have_sign(states, id, &ids, Sign::Plus) {
         Some(ids)
     } else {
@@ -88,7 +88,8 @@ fn numbers_of_whole(states: &States, starts: &Starts, v: Vertex, id: u32, ids: &
     requires domain { InDomain states.now.dims v }
     requires id { id ≡ id_of states.now.dims v }
     requires whole { IsWhole states.now.dims states.now.states v ids.now }
-    ensures { numbered_from states.now.dims states.now.states v ≡ whole_tets result.own result.later }
+    ensures plus { ArePlusNodes states.now.dims states.now.states v result.own result.later }
+    ensures pieces { numbered_from states.now.dims states.now.states v ≡ whole_tets result.own result.later }
 {
     let own = starts.vertex_number(id);
     let later = numbers_at(starts, ids);
@@ -103,7 +104,8 @@ pub fn whole_numbers(states: &States, starts: &Starts, v: Vertex, id: u32) -> Op
     requires numbers { NumbersLayers states.now.dims states.now.states v.h starts.now }
     requires domain { InDomain states.now.dims v }
     requires id { id ≡ id_of states.now.dims v }
-    ensures { IfSome result (λ w. numbered_from states.now.dims states.now.states v ≡ whole_tets w.own w.later) }
+    ensures plus { IfSome result (λ w. ArePlusNodes states.now.dims states.now.states v w.own w.later) }
+    ensures pieces { IfSome result (λ w. numbered_from states.now.dims states.now.states v ≡ whole_tets w.own w.later) }
 {
     match whole_at(states, v, id) {
         Some(ids) => Some(numbers_of_whole(states, starts, v, id, &ids)),

@@ -34,11 +34,6 @@ pub record RowText : Type 0 where
   pub text : List ℕ
   pub end : ℕ
 
--- a part of a buffer of n bytes
-pub record IsWithin (start end n : ℕ) : Type 0 where
-  pub order : start ≤ end
-  pub within : end ≤ n
-
 -- bytes, and the number of parts of 8192 that they are the text of
 pub record FractionText : Type 0 where
   pub bytes : List ℕ

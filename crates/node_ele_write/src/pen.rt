@@ -10,7 +10,7 @@ use crate::fractions::Fractions;
 use crate::front::Front;
 use crate::line::Line;
 use crate::own_units::world_value;
-use crate::row::Row;
+use crate::row::{ROW, Row};
 use crate::tet_lines::{LINES, append, make_room, put_line};
 use crate::text::node_line;
 use crate::texts::Texts;
@@ -78,7 +78,7 @@ impl Pen {
     /// Puts the text of a number behind the row.
     #[inline(always)]
     fn text(&mut self, number: u32)
-        requires { self.old.row.end + 12 ≤ 160 }
+        requires { self.old.row.end + 12 ≤ ROW }
         ensures text { self.new.row.text ≡ self.old.row.text ++ spaced number }
         ensures end { self.new.row.end ≤ self.old.row.end + 11 }
     {
@@ -89,7 +89,7 @@ impl Pen {
     /// Puts the text of a coordinate that is not below zero behind the row, after a space.
     #[inline(always)]
     fn coordinate(&mut self, value: i64)
-        requires room { self.old.row.end + 27 ≤ 160 }
+        requires room { self.old.row.end + 27 ≤ ROW }
         requires some { pos 0 ≤ℤ value }
         requires size { unsigned_abs value < 2 ^ 40 }
         ensures text { self.new.row.text ≡ self.old.row.text ++ 32 ∷ coordinate_text value }
@@ -103,7 +103,7 @@ impl Pen {
     /// Puts the marker of a node behind the row, after a space.
     #[inline(always)]
     fn marker(&mut self, level: bool)
-        requires { self.old.row.end + 2 ≤ 160 }
+        requires { self.old.row.end + 2 ≤ ROW }
         ensures text { self.new.row.text ≡ self.old.row.text ++ 32 ∷ marker_text level }
         ensures end { self.new.row.end ≡ self.old.row.end + 2 }
     {
@@ -117,7 +117,7 @@ impl Pen {
         requires number { number < 3 }
         requires axis { IsAxis axis.now }
         requires near { unsigned_abs (pos step *ℤ coordinate) ≤ 8192 * 9000 }
-        requires room { self.old.row.end + 48 ≤ 160 }
+        requires room { self.old.row.end + 48 ≤ ROW }
         ensures text { self.new.row.text ≡ self.old.row.text ++ 32 ∷ world_text (world_value_lem axis.now step coordinate) }
         ensures end { self.new.row.end ≤ self.old.row.end + 44 }
     {
@@ -144,7 +144,7 @@ impl Pen {
         ensures text { OnOk result (out.new.items ≡ out.old.items ++ node_line_lem (record { step = step; world = Some axes.now }) (number, record { place = place; level = level })) }
         ensures unchanged { OnErr result (out.new.items ≡ out.old.items) }
     {
-        self.row.begin(u64::from(number));
+        self.row.begin(&mut self.front, u64::from(number));
         self.own_coordinate(0, &axes[0], step, place.x);
         self.own_coordinate(1, &axes[1], step, place.y);
         self.own_coordinate(2, &axes[2], step, place.z);
@@ -174,7 +174,7 @@ impl Pen {
         if x < 0 || y < 0 || z < 0 {
             return node_line(out, number, place, Frame { step, world: None }, level);
         }
-        self.row.begin(u64::from(number));
+        self.row.begin(&mut self.front, u64::from(number));
         self.coordinate(x);
         self.coordinate(y);
         self.coordinate(z);

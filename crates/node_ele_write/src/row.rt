@@ -4,40 +4,35 @@ ghost use Rattle.mesh_texts.specs.Frames.{world_text};
 ghost use Rattle.node_ele_write.specs.Texts.{spaced};
 
 use crate::fractions::{DECIMALS, FRACTION_WIDTH, Fraction};
+use crate::front::Front;
 use crate::line::COPY;
 use crate::texts::{Text, WIDTH};
 use crate::world_texts::WorldText;
-use itoa::write_digits;
 use st_base::NoMemory;
 use std::marker::Model;
 
-/// The bytes of a row: a number of 64 bits, three coordinates, a marker, the end of the line, and what follows
-/// the last of them.
-pub const ROW: usize = 160;
-
-/// Where the first number of a row ends.
-const FIRST: usize = 20;
+/// The bytes of a row: a number of 64 bits, two coordinates of the volume's own units, and what is copied of a third.
+pub const ROW: usize = 156;
 
 /// A line of numbers that grows at its end. Contracts see its bytes, and where they end in the buffer.
 ///
-/// It is the bytes from `start` to `end`, which is not before `start` and at most the length of the buffer.
+/// It is the first `end` bytes of the buffer.
 #[derive(Drop)]
 pub struct Row {
     bytes: [u8; ROW],
-    start: usize,
     end: usize,
 }
 
 impl Model for Row {
-    ghost use Rattle.std.specs.Prelude.{take, drop, ◌≤◌};
+    ghost use Rattle.std.specs.Prelude.{take, ◌≤◌};
     ghost use Rattle.node_ele_write.specs.declared.row.TheConstants.{ROW};
-    ghost use Rattle.node_ele_write.specs.Texts.{IsWithin, RowText};
+    ghost use Rattle.node_ele_write.specs.Texts.{RowText};
 
     ghost Value = { RowText };
 
-    ghost view = { λ row. record { text = drop row.start (take row.end row.bytes); end = row.end } };
+    ghost view = { λ row. record { text = take row.end row.bytes; end = row.end } };
 
-    ghost invariant = { λ row. IsWithin row.start row.end ROW };
+    ghost invariant = { λ row. row.end ≤ ROW };
 }
 
 impl Row {
@@ -45,19 +40,17 @@ impl Row {
     pub fn new() -> Row {
         Row {
             bytes: [0; ROW],
-            start: FIRST,
-            end: FIRST,
+            end: 0,
         }
     }
 
     /// Begins the row anew with a number.
     #[inline(always)]
-    pub fn begin(&mut self, number: u64)
+    pub fn begin(&mut self, front: &mut Front, number: u64)
         ensures text { self.new.text ≡ decimal number }
-        ensures end { self.new.end ≡ 20 }
+        ensures end { self.new.end ≤ 20 }
     {
-        self.start = write_digits(number, &mut self.bytes, FIRST);
-        self.end = FIRST;
+        self.end = front.put(&mut self.bytes, 0, number);
     }
 
     /// Puts a byte at the end.
@@ -109,7 +102,7 @@ impl Row {
         ensures ok { OnOk result (out.new.items ≡ out.old.items ++ self.now.text) }
         ensures unchanged { OnErr result (out.new.items ≡ out.old.items) }
     {
-        match out.extend_from_slice(&self.bytes[self.start..self.end]) {
+        match out.extend_from_slice(&self.bytes[..self.end]) {
             Ok(()) => Ok(()),
             Err(_) => Err(NoMemory),
         }

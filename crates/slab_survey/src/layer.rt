@@ -9,7 +9,7 @@ ghost use Rattle.vertex_numbers.specs.Sources.{KnowsAround};
 ghost use Rattle.slab_survey.specs.Layers.{HasPut};
 
 use crate::source::KnownLayers;
-use bcc_lattice::{columns, rows, vertex_in_row};
+use bcc_lattice::{columns, id, rows, vertex_in_row};
 use layer_cells::{CellSeat, Cells};
 use samples::Field;
 use snap_rule::{Shares, row_states};
@@ -39,8 +39,11 @@ fn put_row<L: Ledger>(
     ensures sizes { IsDims field.now.dims }
 {
     row_states(field, shares, h, j, ledger, codes);
-    for i in 0..columns(field.dims(), h) {
-        cells.put(seat, vertex_in_row(h, j, i), codes[i as usize]);
+    let dims = field.dims();
+    let start = id(dims, vertex_in_row(h, j, 0));
+    for i in 0..columns(dims, h) {
+        let v = vertex_in_row(h, j, i);
+        cells.put(seat, v, start + i, codes[i as usize]);
     }
 }
 

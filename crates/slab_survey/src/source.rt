@@ -52,7 +52,7 @@ impl<'a> StateSource for KnownLayers<'a> {
     }
 
     #[inline(always)]
-    fn sign_by_id(&mut self, _v: Vertex, id: u32) -> Sign {
-        sign_of(self.cells.read_id(self.seat, _v, id))
+    fn sign_by_id(&mut self, v: Vertex, id: u32) -> Sign {
+        sign_of(self.cells.read_id(self.seat, v, id))
     }
 }

@@ -4,9 +4,11 @@ pub mod Spans
 pub mod TakenAngles
 pub mod Numbers
 pub mod Places
+pub mod Walked
 pub mod Walks
 pub mod Pieces
 pub mod Measured
 pub mod Counts
 pub mod SpanIds
 pub mod Joining
+pub mod Stars

@@ -3,3 +3,4 @@ pub mod Nodes
 pub mod NodeLines
 pub mod Texts
 pub mod Laws
+pub mod Stars

@@ -5,11 +5,9 @@ use Rattle.definitions.specs.declared.Place.{Place}
 use Rattle.definitions.specs.declared.Extreme.{Extreme}
 use Rattle.definitions.specs.Angles.{angles_of, extremes_of}
 use Rattle.definitions.specs.Soundness.{corner_places}
-use Rattle.definitions.specs.Vectors.{det, place_at}
-use Rattle.dihedral.specs.declared.Seven.{Seven}
+use Rattle.definitions.specs.Vectors.{det}
 use Rattle.determinants.specs.Bounds.{AreNear}
 use Rattle.mesh_texts.specs.Lines.{ele_lines, renumbered}
-use Rattle.vertex_numbers.specs.declared.Later.{Later}
 use Rattle.slab_texts.specs.declared.lines.TetLines.{TetLines}
 use Rattle.slab_texts.specs.declared.nodes.Nodes.{Nodes}
 use Rattle.slab_texts.specs.Nodes.{AreInRow}
@@ -52,15 +50,3 @@ pub record IsAmong (nodes : Nodes) (n : ℕ) : Type 0 where
 
 abbrev pub AreAmong : Nodes → List ℕ → Type 0
 AreAmong nodes numbers = All (IsAmong nodes) numbers
-
--- the places of the neighbours upwards of a vertex
-abbrev pub later_places : List Place → Later → Seven
-later_places all l = record {
-  first = place_at all l.first;
-  second = place_at all l.second;
-  third = place_at all l.third;
-  fourth = place_at all l.fourth;
-  fifth = place_at all l.fifth;
-  sixth = place_at all l.sixth;
-  seventh = place_at all l.seventh;
-}

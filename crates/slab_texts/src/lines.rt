@@ -6,12 +6,12 @@ ghost use Rattle.definitions.specs.Angles.{angles_of, extremes_of};
 ghost use Rattle.definitions.specs.Soundness.{corner_places};
 ghost use Rattle.definitions.specs.Vectors.{place_at};
 ghost use Rattle.slab_texts.specs.Nodes.{AreInRow};
-ghost use Rattle.dihedral.specs.Shapes.{Covers};
 ghost use Rattle.mesh_lists.specs.Parts.{whole_tets};
-ghost use Rattle.slab_texts.specs.Texts.{Adds, AreAmong, AreMeasuredIn, IsAmong, later_places, lines_if};
+ghost use Rattle.slab_texts.specs.Stars.{AreStar};
+ghost use Rattle.slab_texts.specs.Texts.{Adds, AreAmong, AreMeasuredIn, IsAmong, lines_if};
 
 use crate::Nodes;
-use dihedral::{Remembering, Seven};
+use dihedral::Remembering;
 use mesh_lists::{Whole, six_tets};
 use node_ele_write::Pen;
 use st_base::{NoMemory, Place};
@@ -68,24 +68,6 @@ fn push_text(tets: &[[u32; 4]], pen: &mut Pen, out: &mut TetLines) -> Result<(),
     }
 }
 
-// Tetrahedra whose angles are within the extremes so far.
-fn push_known(
-    _nodes: &Nodes,
-    tets: &[[u32; 4]],
-    pen: &mut Pen,
-    out: &mut TetLines,
-) -> Result<(), NoMemory>
-    requires among { All (AreAmong _nodes.now) tets.now }
-    requires known { (all : List Place) → AreInRow all _nodes.now.first _nodes.now.places.items → All (Covers out.old.angles) (map (corner_places all) tets.now) }
-    requires room { out.old.number + length tets.now < 2 ^ 63 }
-    ensures adds { OnOk result (Adds _nodes.now out.old tets.now out.new) }
-    ensures few { out.new.number ≤ out.old.number + length tets.now }
-{
-    push_text(tets, pen, out)?;
-    out.number += tets.len() as u64;
-    Ok(())
-}
-
 // The angles of a tetrahedron with a number, whose nodes have these numbers.
 #[inline(always)]
 fn take_tet(nodes: &Nodes, numbers: [u32; 4], number: u64, angles: &mut Remembering)
@@ -108,24 +90,6 @@ fn take_all(nodes: &Nodes, tets: &[[u32; 4]], number: u64, angles: &mut Remember
     }
 }
 
-// The places of the neighbours upwards of a vertex where the lattice tetrahedra are whole.
-#[inline(always)]
-fn places_around(nodes: &Nodes, whole: &Whole) -> Seven
-    requires { All (AreAmong nodes.now) (whole_tets whole.now.own whole.now.later) }
-    ensures { (all : List Place) → AreInRow all nodes.now.first nodes.now.places.items → result ≡ later_places all whole.now.later }
-{
-    let later = &whole.later;
-    Seven {
-        first: place_of(nodes, later.first),
-        second: place_of(nodes, later.second),
-        third: place_of(nodes, later.third),
-        fourth: place_of(nodes, later.fourth),
-        fifth: place_of(nodes, later.fifth),
-        sixth: place_of(nodes, later.sixth),
-        seventh: place_of(nodes, later.seventh),
-    }
-}
-
 /// Tetrahedra, one after another.
 pub fn push_all(
     nodes: &Nodes,
@@ -145,28 +109,28 @@ pub fn push_all(
     Ok(())
 }
 
-// The same for the six lattice tetrahedra at a vertex, which are remembered for the next such vertex.
-fn push_new(
-    nodes: &Nodes,
-    six: &[[u32; 4]],
-    own: Place,
-    others: &Seven,
-    pen: &mut Pen,
-    out: &mut TetLines,
-) -> Result<(), NoMemory>
-    requires among { All (AreAmong nodes.now) six.now }
-    requires measured { AreMeasuredIn nodes.now six.now }
-    requires room { out.old.number + length six.now < 2 ^ 63 }
-    ensures adds { OnOk result (Adds nodes.now out.old six.now out.new) }
-    ensures few { out.new.number ≤ out.old.number + length six.now }
+// The lines of the six lattice tetrahedra at a vertex where they are whole and known, where lines are written.
+fn push_known_six(whole: &Whole, pen: &mut Pen, out: &mut TetLines) -> Result<(), NoMemory>
+    requires small { All (All (λ n. n < 2 ^ 31)) (whole_tets whole.now.own whole.now.later) }
+    requires room { out.old.number + 6 < 2 ^ 63 }
+    ensures text { OnOk result (out.new.text.items ≡ out.old.text.items ++ lines_if out.old.writes out.old.numbering out.old.number (whole_tets whole.now.own whole.now.later)) }
+    ensures writes { out.new.writes ≡ out.old.writes }
+    ensures numbering { out.new.numbering ≡ out.old.numbering }
+    ensures number { OnOk result (out.new.number ≡ out.old.number + 6) }
+    ensures few { out.new.number ≤ out.old.number + 6 }
+    ensures angles { out.new.angles ≡ out.old.angles }
 {
-    push_all(nodes, six, pen, out)?;
-    out.angles.learn(own, others);
+    if out.writes {
+        let first = out.numbering;
+        let number = u64::from(first) + out.number;
+        pen.ele_lines(&mut out.text, number, u32::from(first), &six_tets(whole))?;
+    }
+    out.number += 6;
     Ok(())
 }
 
-/// The six lattice tetrahedra at a vertex where they are whole. Mostly their angles are known at once.
-pub fn push_whole(
+// The six where they are whole and not known yet.
+fn push_new_six(
     nodes: &Nodes,
     whole: &Whole,
     pen: &mut Pen,
@@ -178,12 +142,28 @@ pub fn push_whole(
     ensures adds { OnOk result (Adds nodes.now out.old (whole_tets whole.now.own whole.now.later) out.new) }
     ensures few { out.new.number ≤ out.old.number + 6 }
 {
-    let six = six_tets(whole);
-    let own = place_of(nodes, whole.own);
-    let others = places_around(nodes, whole);
-    if out.angles.knows_six(own, &others) {
-        push_known(nodes, &six, pen, out)
+    push_all(nodes, &six_tets(whole), pen, out)?;
+    out.angles.learn_star();
+    Ok(())
+}
+
+/// The six lattice tetrahedra at a vertex where they are whole. Once their angles are known, no place is looked up.
+pub fn push_whole(
+    nodes: &Nodes,
+    whole: &Whole,
+    pen: &mut Pen,
+    out: &mut TetLines,
+) -> Result<(), NoMemory>
+    requires among { All (AreAmong nodes.now) (whole_tets whole.now.own whole.now.later) }
+    requires measured { AreMeasuredIn nodes.now (whole_tets whole.now.own whole.now.later) }
+    requires star { AreStar nodes.now whole.now.own whole.now.later }
+    requires room { out.old.number + 6 < 2 ^ 63 }
+    ensures adds { OnOk result (Adds nodes.now out.old (whole_tets whole.now.own whole.now.later) out.new) }
+    ensures few { out.new.number ≤ out.old.number + 6 }
+{
+    if out.angles.knows_star() {
+        push_known_six(whole, pen, out)
     } else {
-        push_new(nodes, &six, own, &others, pen, out)
+        push_new_six(nodes, whole, pen, out)
     }
 }

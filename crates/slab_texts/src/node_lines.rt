@@ -18,7 +18,7 @@ use node_ele_write::Pen;
 use samples::Field;
 use snap_rule::States;
 use st_base::{Frame, NoMemory, Place, Vertex};
-use vertex_numbers::Starts;
+use vertex_numbers::{Starts, Walk};
 
 /// Lines of nodes, and the number of the next one.
 #[derive(Drop)]
@@ -182,10 +182,10 @@ pub fn push_lines(
         (map (node_of_key field.now states.now.states) (keys_of_ids field.now.dims states.now.states start (end - start))) out.new) }
 {
     let dims = field.dims();
-    let mut v = v;
-    for id in start..end {
-        push_nodes(field, states, starts, v, id, frame, pen, out)?;
-        v = next_vertex(dims, v);
+    let mut at = Walk::from(starts, dims, v, start, end);
+    while at.id < end {
+        push_nodes(field, states, starts, at.v, at.id, frame, pen, out)?;
+        at = Walk::from(starts, dims, next_vertex(dims, at.v), at.id + 1, end);
     }
     Ok(())
 }

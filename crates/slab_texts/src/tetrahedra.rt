@@ -4,6 +4,7 @@ ghost use Rattle.definitions.specs.Lattice.{InDomain, id as id_of, vertex_at, ve
 ghost use Rattle.mesh_lists.specs.Layers.{HoldLayers};
 ghost use Rattle.mesh_lists.specs.Parts.{numbered, numbered_from};
 ghost use Rattle.slab_texts.specs.Nodes.{HasNodes, pieces_at};
+ghost use Rattle.slab_texts.specs.Stars.{PlusOnLattice};
 ghost use Rattle.slab_texts.specs.Texts.{Adds, AreMeasuredIn};
 
 use crate::lines::{push_all, push_whole};
@@ -12,6 +13,7 @@ use bcc_lattice::next_vertex;
 use mesh_lists::{push_tets_from, whole_numbers};
 use snap_rule::States;
 use st_base::{NoMemory, Vertex};
+use vertex_numbers::Walk;
 
 // The pieces of the lattice tetrahedra whose lowest vertex is `v`.
 fn push_pieces(
@@ -34,7 +36,7 @@ fn push_pieces(
     push_all(nodes, &tools.tets, &mut tools.pen, out)
 }
 
-// The same, at once where neither the vertex nor an edge upwards from it is a node, and where all of them are whole.
+// The same, at once where all of them are whole.
 fn push_from(
     states: &States,
     nodes: &Nodes,
@@ -44,6 +46,7 @@ fn push_from(
     out: &mut TetLines,
 ) -> Result<(), NoMemory>
     requires nodes { HasNodes states.now.dims states.now.states nodes.now }
+    requires plus { PlusOnLattice states.now.dims states.now.states nodes.now }
     requires domain { InDomain states.now.dims v }
     requires hold { HoldLayers states.now.dims v.h nodes.now.start nodes.now.end }
     requires measured { AreMeasuredIn nodes.now (numbered_from states.now.dims states.now.states v) }
@@ -55,9 +58,6 @@ fn push_from(
     ensures adds { OnOk result (Adds nodes.now out.old (numbered_from states.now.dims states.now.states v) out.new) }
     ensures few { out.new.number ≤ out.old.number + 18 }
 {
-    if !nodes.starts.has_nodes(id) {
-        return Ok(());
-    }
     match whole_numbers(states, &nodes.starts, v, id) {
         Some(whole) => push_whole(nodes, &whole, &mut tools.pen, out),
         None => push_pieces(states, nodes, v, tools, out),
@@ -76,6 +76,7 @@ pub fn push_tets(
     out: &mut TetLines,
 ) -> Result<(), NoMemory>
     requires nodes { HasNodes states.now.dims states.now.states nodes.now }
+    requires plus { PlusOnLattice states.now.dims states.now.states nodes.now }
     requires first { from < length (vertices states.now.dims) → v ≡ vertex_at states.now.dims from }
     requires some { from ≤ to }
     requires within { to ≤ length (vertices states.now.dims) }
@@ -87,10 +88,10 @@ pub fn push_tets(
     ensures { OnOk result (Adds nodes.now out.old (numbered states.now.dims states.now.states (flat_map (pieces_at states.now.dims states.now.states) (range_with_len from (to - from)))) out.new) }
 {
     let dims = states.dims();
-    let mut v = v;
-    for id in from..to {
-        push_from(states, nodes, v, id, tools, out)?;
-        v = next_vertex(dims, v);
+    let mut at = Walk::from(&nodes.starts, dims, v, from, to);
+    while at.id < to {
+        push_from(states, nodes, at.v, at.id, tools, out)?;
+        at = Walk::from(&nodes.starts, dims, next_vertex(dims, at.v), at.id + 1, to);
     }
     Ok(())
 }

@@ -1,5 +1,4 @@
 pub mod Neighbours
-pub mod RowStarts
 pub mod Seven
 pub mod NodesTold
 pub mod PiecesTold
@@ -14,3 +13,6 @@ pub mod LaterIds
 pub mod OneSign
 pub mod Upwards
 pub mod Columns
+pub mod StepIds
+pub mod Rows
+pub mod Drafts

@@ -1,5 +1,5 @@
 -- Sums over ranges.
-use Rattle.std.proofs.Common.{◌≡◌, ℕ, zero, suc, ◌+◌, ◌*◌, ◌<◌, ◌≤◌, Bool, cond, List, length, map, arith, refl, sym, ap, ◌∙◌}
+use Rattle.std.proofs.Common.{◌≡◌, ℕ, zero, suc, ◌+◌, ◌-◌, ◌*◌, ◌<◌, ◌≤◌, Bool, cond, List, length, map, arith, refl, sym, ap, ◌∙◌}
 use Rattle.std.specs.Prelude.{filter}
 use Rattle.std.specs.List.{range_with_len, sum_by}
 use Rattle.std.proofs.lemmas.List.Sums.{sum_by-append, sum_by-cons, length-filter}
@@ -18,12 +18,43 @@ sum_next f a n = sum_join f a n 1 ∙ ap (λ m. sum_by f (range_with_len a n) + 
     zero_more : (n : ℕ) → 0 + n ≡ n
     zero_more n = omega arith
 
+-- the first number of a range, and those after it
+pub sum_first : (f : ℕ → ℕ) (s a b : ℕ) → a < b → sum_by f (range_with_len (s + a) (b - a)) ≡ f (s + a) + sum_by f (range_with_len (s + (a + 1)) (b - (a + 1)))
+sum_first f s a b lt =
+    ap (λ n. sum_by f (range_with_len (s + a) n)) (one_less a b lt)
+    ∙ sum_by-cons f (s + a) (range_with_len (s + a + 1) (b - (a + 1)))
+    ∙ ap (λ m. f (s + a) + sum_by f (range_with_len m (b - (a + 1)))) (next s a)
+  where
+    one_less : (a b : ℕ) → a < b → b - a ≡ suc (b - (a + 1))
+    one_less a b lt = omega arith
+
+    next : (s a : ℕ) → s + a + 1 ≡ s + (a + 1)
+    next s a = omega arith
+
+-- two parts of a range
+pub sum_parts : (f : ℕ → ℕ) (s a b : ℕ) → a ≤ b → sum_by f (range_with_len s a) + sum_by f (range_with_len (s + a) (b - a)) ≡ sum_by f (range_with_len s b)
+sum_parts f s a b le = sym (sum_join f s a (b - a)) ∙ ap (λ n. sum_by f (range_with_len s n)) (whole a b le)
+  where
+    whole : (a b : ℕ) → a ≤ b → a + (b - a) ≡ b
+    whole a b le = omega arith
+
 pub sums_alike : (f g : ℕ → ℕ) (a n : ℕ) → ((k : ℕ) → a ≤ k → k < a + n → f k ≡ g k) → sum_by f (range_with_len a n) ≡ sum_by g (range_with_len a n)
 sums_alike f g a zero h = refl
 sums_alike f g a (suc n) h =
     sum_by-cons f a (range_with_len (a + 1) n)
     ∙ (λ i. h a (omega arith) (omega arith) i + sums_alike f g (a + 1) n (λ k lo hi. h k (omega arith) (omega arith)) i)
     ∙ sym (sum_by-cons g a (range_with_len (a + 1) n))
+
+pub sum_same : (f : ℕ → ℕ) (c a n : ℕ) → ((k : ℕ) → a ≤ k → k < a + n → f k ≡ c) → sum_by f (range_with_len a n) ≡ n * c
+sum_same f c a zero h = none c
+  where
+    none : (c : ℕ) → 0 ≡ 0 * c
+    none c = omega arith
+sum_same f c a (suc n) h =
+    sum_by-cons f a (range_with_len (a + 1) n) ∙ (λ i. h a (omega arith) (omega arith) i + sum_same f c (a + 1) n (λ k lo hi. h k (omega arith) (omega arith)) i) ∙ more n c
+  where
+    more : (n c : ℕ) → c + n * c ≡ suc n * c
+    more n c = omega arith
 
 pub length-filter_trues : {X : Type 0} (p : X → Bool) (xs : List X) → length (filter p xs) ≡ trues (map p xs)
 length-filter_trues p xs = length-filter p xs ∙ sym (sum_by-map (λ b. cond b 1 0) p xs)

@@ -6,7 +6,7 @@ use Rattle.definitions.specs.Lattice.{InDomain, moved, step, vertex}
 use Rattle.lattice_laws.proofs.LaterNeighbours.{neighbour_from}
 use Rattle.lattice_laws.proofs.Steps.{is_step_1, is_step_2, is_step_3, is_step_4, is_step_5, is_step_6, is_step_7}
 use Rattle.lattice_laws.proofs.Vertices.{domain_in}
-use Rattle.vertex_numbers.specs.Alike.{HasColumn, IsUp}
+use Rattle.vertex_numbers.specs.Alike.{HasColumn, HasNext, IsUp}
 use Rattle.vertex_numbers.specs.Later.{HasAllLater}
 
 up_in : (d : Dims) (v w : Vertex) (dir : ℕ) → InDomain d w → moved v (step dir) ≡ Some w → IsUp d v dir w
@@ -47,7 +47,7 @@ module _ (d : Dims) (v : Vertex) (k : InDomain d v) (a : HasColumn d v) where
       (record { h_below = a.h_high; y_below = k.y_below; x_below = k.x_below; y_alike = (let p = k.y_alike in omega arith); x_alike = (let p = k.x_alike in omega arith) })
       (is_step_7 v (vertex (v.h + 2) v.y v.x) refl refl refl)
 
-module _ (d : Dims) (v : Vertex) (k : InDomain d v) (a : HasAllLater d v) where
+module _ (d : Dims) (v : Vertex) (k : InDomain d v) (a : HasNext d v) where
   pub up_1 : IsUp d v 1 (vertex v.h v.y (v.x + 2))
   up_1 =
       up_in d v (vertex v.h v.y (v.x + 2)) 1
@@ -72,9 +72,13 @@ module _ (d : Dims) (v : Vertex) (k : InDomain d v) (a : HasAllLater d v) where
   pub up_6 : IsUp d v 6 (vertex (v.h + 1) (v.y + 1) (v.x + 1))
   up_6 = up_in d v (vertex (v.h + 1) (v.y + 1) (v.x + 1)) 6 (behind (v.y + 1) (omega arith) (omega arith)) (is_step_6 v (vertex (v.h + 1) (v.y + 1) (v.x + 1)) refl refl refl)
 
-  -- the column of the vertex, and that of the next one along x
-  pub column_here : HasColumn d v
-  column_here = record { h_high = a.h_high; y_high = a.y_high; y_low = a.y_low; x_low = a.x_low }
-
+  -- the column of the next vertex along x
   pub column_next : HasColumn d (vertex v.h v.y (v.x + 2))
-  column_next = record { h_high = a.h_high; y_high = a.y_high; y_low = a.y_low; x_low = (let l = a.x_low in omega arith) }
+  column_next = record { h_high = a.h_high; y_high = a.y_high; y_low = a.y_low; x_low = omega arith }
+
+-- where all neighbours upwards are in the domain
+pub column_here : (d : Dims) (v : Vertex) → HasAllLater d v → HasColumn d v
+column_here d v a = record { h_high = a.h_high; y_high = a.y_high; y_low = a.y_low; x_low = a.x_low }
+
+pub next_here : (d : Dims) (v : Vertex) → HasAllLater d v → HasNext d v
+next_here d v a = record { h_high = a.h_high; y_high = a.y_high; x_high = a.x_high; y_low = a.y_low }

@@ -29,7 +29,14 @@ pub record HasColumn (d : Dims) (v : Vertex) : Type 0 where
   pub y_low : 1 ≤ v.y
   pub x_low : 1 ≤ v.x
 
--- they and the vertex have the sign
+-- those of the next vertex along x are, and it is too
+pub record HasNext (d : Dims) (v : Vertex) : Type 0 where
+  pub h_high : v.h + 2 < 2 * d.nz + 3
+  pub y_high : v.y + 2 < 2 * d.ny + 3
+  pub x_high : v.x + 2 < 2 * d.nx + 3
+  pub y_low : 1 ≤ v.y
+
+-- the neighbours of a column and the vertex have the sign
 pub record IsColumn (d : Dims) (told : Vertex → State) (v : Vertex) (s : Sign) : Type 0 where
   pub own : sign_of_state (told v) ≡ s
   pub second : sign_towards d told v true 2 ≡ Some s

@@ -1,9 +1,10 @@
-pub mod Rows
 pub mod Sources
 pub mod Bits
 pub mod Alike
 pub mod Around
 pub mod Later
 pub mod Counts
+pub mod Steps
+pub mod Rows
 pub mod Offsets
 pub mod Numbering

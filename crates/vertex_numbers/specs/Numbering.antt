@@ -1,5 +1,5 @@
 -- Which nodes occur at the vertices of some ids, and their numbers.
-use Rattle.std.specs.Prelude.{◌≡◌, ℕ, ◌+◌, ◌-◌, ◌*◌, ◌/◌, ◌%◌, ◌^◌, ◌<◌, ◌≤◌, true, Bool, List, [], length, map, filter, slice_index, count_ones}
+use Rattle.std.specs.Prelude.{◌≡◌, ℕ, ◌+◌, ◌-◌, ◌*◌, ◌/◌, ◌%◌, ◌^◌, ◌<◌, ◌≤◌, true, Bool, List, [], length, map, filter, slice_index, count_ones, vec_capacity}
 use Rattle.std.specs.List.{range_with_len}
 use Rattle.definitions.specs.declared.Dims.{Dims}
 use Rattle.definitions.specs.declared.State.{State}
@@ -62,6 +62,11 @@ pub record IsDraft (d : Dims) (ss : List State) (id : ℕ) (draft : Draft) : Typ
   pub nodes : draft.nodes.items ≡ map (mesh_bits d ss) (range_with_len draft.first (id - draft.first))
   pub before : draft.before.items ≡ map (nodes_before d ss) (range_with_len draft.first (id - draft.first))
   pub count : draft.count ≡ nodes_before d ss id
+
+-- there is room for so many more
+pub record HasRoom (draft : Draft) (n : ℕ) : Type 0 where
+  pub nodes : length draft.nodes.items + n ≤ vec_capacity draft.nodes
+  pub before : length draft.before.items + n ≤ vec_capacity draft.before
 
 pub record IsEmpty (first count : ℕ) (draft : Draft) : Type 0 where
   pub at_first : draft.first ≡ first

@@ -1,24 +1,33 @@
--- The ids of the vertices of a row along x, and of the rows in which their neighbours upwards stand.
-use Rattle.std.specs.Prelude.{◌≡◌, ℕ, ◌+◌, ◌-◌, ◌*◌, ◌/◌, ◌^◌, ◌<◌, ◌≤◌}
+-- Rows of vertices, and those in a row that have one sign with their neighbours upwards.
+use Rattle.std.specs.Prelude.{◌≡◌, ℕ, ◌+◌, ◌*◌, ◌%◌, ◌<◌, ◌≤◌, Bool, if◌then◌else◌}
 use Rattle.definitions.specs.declared.Dims.{Dims}
-use Rattle.definitions.specs.Lattice.{InDomain, id, vertex}
-use Rattle.vertex_numbers.specs.declared.rows.Rows.{Rows}
+use Rattle.definitions.specs.declared.Sign.{Sign}
+use Rattle.definitions.specs.declared.Sign.TheVariants.{Minus, Plus}
+use Rattle.definitions.specs.declared.State.{State}
+use Rattle.definitions.specs.declared.Vertex.{Vertex}
+use Rattle.definitions.specs.Lattice.{layers, vertex}
+use Rattle.lattice_counts.specs.Counts.{row_len}
+use Rattle.vertex_numbers.specs.Alike.{AreAlike, HasNext}
+use Rattle.vertex_numbers.specs.Counts.{row_start}
+use Rattle.vertex_numbers.specs.Steps.{AreSteps}
+use Rattle.vertex_numbers.specs.declared.runs.Row.{Row}
 
--- the id of each vertex of a row is half its x, rounded down, beyond a start
-pub record BeginsAt (d : Dims) (h y start : ℕ) : Type 0 where
-  pub ids : (x : ℕ) → InDomain d (vertex h y x) → id d (vertex h y x) ≡ start + x / 2
-  pub small : start < 2 ^ 28
+-- the vertex at place i of row j of layer h
+abbrev pub row_vertex : ℕ → ℕ → ℕ → Vertex
+row_vertex h j i = vertex h (j * 2 + h % 2) (i * 2 + h % 2)
 
--- a row whose vertices have neighbours upwards on the axes y and z
-pub record IsInnerRow (d : Dims) (h y : ℕ) : Type 0 where
-  pub h_high : h + 2 < 2 * d.nz + 3
-  pub y_high : y + 2 < 2 * d.ny + 3
-  pub y_low : 1 ≤ y
+-- the row is one of the lattice, and what stands with it is true of it
+pub record IsRow (d : Dims) (r : Row) : Type 0 where
+  pub layer : r.h < layers d
+  pub row : r.j < row_len d.ny r.h
+  pub start : r.start ≡ row_start d r.h r.j
+  pub steps : AreSteps d r.h (r.j * 2 + r.h % 2) r.steps
+  pub next : (i : ℕ) → i < r.followed → HasNext d (row_vertex r.h r.j i)
+  pub short : r.followed < row_len d.nx r.h
 
--- the starts of a row, and of those of the neighbours upwards in directions 2, 3, 5 and 7
-pub record AreRows (d : Dims) (h y : ℕ) (r : Rows) : Type 0 where
-  pub own : BeginsAt d h y r.own
-  pub second : BeginsAt d h (y + 2) r.second
-  pub third : BeginsAt d (h + 1) (y - 1) r.third
-  pub fifth : BeginsAt d (h + 1) (y + 1) r.fifth
-  pub seventh : BeginsAt d (h + 2) y r.seventh
+-- the vertices of a row from place a on and before place b have a sign, and so have their neighbours upwards
+abbrev pub AreAlikeWithin : Dims → (Vertex → State) → Row → ℕ → ℕ → Sign → Type 0
+AreAlikeWithin d told r a b s = (k : ℕ) → a ≤ k → k < b → AreAlike d told (row_vertex r.h r.j k) s
+
+abbrev pub sign_if_plus : Bool → Sign
+sign_if_plus is_plus = if is_plus then Plus else Minus

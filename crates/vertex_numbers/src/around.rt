@@ -1,17 +1,15 @@
 ghost use Rattle.std.specs.Prelude.{◌≡◌, ◌≤◌, ◌<◌, ◌+◌, ◌||◌, not, true, false, Some};
-ghost use Rattle.definitions.specs.Lattice.{InDomain, IsDims, neighbour};
+ghost use Rattle.definitions.specs.Lattice.{InDomain, IsDims, id as id_of, neighbour};
 ghost use Rattle.definitions.specs.States.{sign_of_state};
 ghost use Rattle.definitions.specs.Stencils.{is_plus};
-ghost use Rattle.vertex_numbers.specs.Alike.{HasColumn, IsUp};
-ghost use Rattle.vertex_numbers.specs.Later.{HasAllLater};
+ghost use Rattle.vertex_numbers.specs.Alike.{IsUp};
+ghost use Rattle.vertex_numbers.specs.Later.{AreLater, HasAllLater};
 ghost use Rattle.vertex_numbers.specs.Around.{sign_towards, signs_towards, is_plus_there, has_plus_there};
-ghost use Rattle.vertex_numbers.specs.Rows.{BeginsAt};
 ghost use Rattle.vertex_numbers.specs.Sources.{KnowsAround};
 
 use crate::StateSource;
-use crate::later::has_all_later;
-use crate::rows::rows_around;
-use bcc_lattice::{Dir, neighbour, sign_of};
+use crate::later::{Later, later_ids};
+use bcc_lattice::{Dir, id, neighbour, sign_of};
 use definitions::Sign;
 use st_base::{Dims, Vertex};
 
@@ -60,7 +58,7 @@ pub fn sign_towards<S: StateSource>(
     }
 }
 
-/// The sign of a neighbour upwards that is known to be in the domain, where the ids of its row start at `start`.
+/// The sign of a neighbour upwards that is known to be in the domain.
 #[inline(always)]
 pub fn sign_there<S: StateSource>(
     from: &mut S,
@@ -68,7 +66,7 @@ pub fn sign_there<S: StateSource>(
     _v: Vertex,
     _number: u8,
     w: Vertex,
-    start: u32,
+    id: u32,
 ) -> Sign
     requires dims { IsDims _dims }
     requires sizes { S.sizes from.old ≡ _dims }
@@ -77,31 +75,35 @@ pub fn sign_there<S: StateSource>(
     requires low { 1 ≤ _number }
     requires high { _number ≤ 7 }
     requires neighbour { IsUp _dims _v _number w }
-    requires start { BeginsAt _dims w.h w.y start }
+    requires id { id ≡ id_of _dims w }
     ensures sign { sign_towards _dims (S.told from.old) _v true _number ≡ Some result }
     ensures same { S.unchanged from.old from.new }
 {
-    from.sign_by_id(w, start + w.x / 2)
+    from.sign_by_id(w, id)
 }
 
 /// The signs upwards of a vertex, where all its neighbours upwards are in the domain.
 #[inline(always)]
 #[tactic(auto, using(lattice_counts::proofs::Sizes::nx_small, lattice_counts::proofs::Sizes::ny_small, lattice_counts::proofs::Sizes::nz_small, crate::proofs::Upwards::up_1, crate::proofs::Upwards::up_2, crate::proofs::Upwards::up_3, crate::proofs::Upwards::up_4, crate::proofs::Upwards::up_5, crate::proofs::Upwards::up_6, crate::proofs::Upwards::up_7))]
-fn signs_within<S: StateSource>(from: &mut S, dims: Dims, v: Vertex) -> [Option<Sign>; 7]
+fn signs_within<S: StateSource>(
+    from: &mut S,
+    dims: Dims,
+    v: Vertex,
+    ids: Later,
+) -> [Option<Sign>; 7]
     requires dims { IsDims dims }
     requires sizes { S.sizes from.old ≡ dims }
     requires domain { InDomain dims v }
     requires known { KnowsAround dims (S.knows from.old) v.h }
     requires all { HasAllLater dims v }
-    requires column { HasColumn dims v }
+    requires ids { AreLater dims v ids }
     ensures up { result ≡ signs_towards dims (S.told from.old) v true }
     ensures same { S.unchanged from.old from.new }
 {
     let Vertex { h, y, x } = v;
-    let rows = rows_around(dims, h, y);
     let (above, below, right) = (y + 1, y - 1, x + 1);
-    let first = sign_there(from, dims, v, 1, Vertex { h, y, x: x + 2 }, rows.own);
-    let second = sign_there(from, dims, v, 2, Vertex { h, y: y + 2, x }, rows.second);
+    let first = sign_there(from, dims, v, 1, Vertex { h, y, x: x + 2 }, ids.first);
+    let second = sign_there(from, dims, v, 2, Vertex { h, y: y + 2, x }, ids.second);
     let left = x - 1;
     let up = h + 1;
     let third = sign_there(
@@ -114,7 +116,7 @@ fn signs_within<S: StateSource>(from: &mut S, dims: Dims, v: Vertex) -> [Option<
             y: below,
             x: left,
         },
-        rows.third,
+        ids.third,
     );
     let fourth = sign_there(
         from,
@@ -126,7 +128,7 @@ fn signs_within<S: StateSource>(from: &mut S, dims: Dims, v: Vertex) -> [Option<
             y: below,
             x: right,
         },
-        rows.third,
+        ids.fourth,
     );
     let fifth = sign_there(
         from,
@@ -138,7 +140,7 @@ fn signs_within<S: StateSource>(from: &mut S, dims: Dims, v: Vertex) -> [Option<
             y: above,
             x: left,
         },
-        rows.fifth,
+        ids.fifth,
     );
     let sixth = sign_there(
         from,
@@ -150,9 +152,9 @@ fn signs_within<S: StateSource>(from: &mut S, dims: Dims, v: Vertex) -> [Option<
             y: above,
             x: right,
         },
-        rows.fifth,
+        ids.sixth,
     );
-    let seventh = sign_there(from, dims, v, 7, Vertex { h: h + 2, y, x }, rows.seventh);
+    let seventh = sign_there(from, dims, v, 7, Vertex { h: h + 2, y, x }, ids.seventh);
     [
         Some(first),
         Some(second),
@@ -191,10 +193,9 @@ fn signs_upwards<S: StateSource>(from: &mut S, dims: Dims, v: Vertex) -> [Option
     ensures up { result ≡ signs_towards dims (S.told from.old) v true }
     ensures same { S.unchanged from.old from.new }
 {
-    if has_all_later(dims, v) {
-        signs_within(from, dims, v)
-    } else {
-        signs_anywhere(from, dims, v)
+    match later_ids(dims, v, id(dims, v)) {
+        Some(ids) => signs_within(from, dims, v, ids),
+        None => signs_anywhere(from, dims, v),
     }
 }
 

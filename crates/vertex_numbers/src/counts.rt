@@ -1,21 +1,19 @@
-ghost use Rattle.std.specs.Prelude.{◌≡◌, ◌≤◌, ◌<◌, ◌+◌, ◌*◌, ℕ, length, IfSome, List, sum_by};
+ghost use Rattle.std.specs.Prelude.{◌≡◌, ◌≤◌, ◌<◌, ◌+◌, ◌-◌, ◌*◌, ◌^◌, ℕ, length, List, sum_by, if◌then◌else◌};
+ghost use Rattle.std.specs.List.{range_with_len};
 ghost use Rattle.definitions.specs.declared.State.{State};
-ghost use Rattle.definitions.specs.Lattice.{InDomain, IsDims, layers, vertex};
+ghost use Rattle.definitions.specs.Lattice.{InDomain, IsDims, layers};
 ghost use Rattle.definitions.specs.Mesh.{ArePadded, layer_node_keys, layer_pieces};
 ghost use Rattle.lattice_counts.specs.Counts.{row_len};
-ghost use Rattle.vertex_numbers.specs.Alike.{AreAlike, IsColumn};
 ghost use Rattle.vertex_numbers.specs.Counts.{nodes_at_id, pieces_at_id, row_ids, vertex_nodes, vertex_pieces};
-ghost use Rattle.vertex_numbers.specs.Rows.{AreRows, IsInnerRow};
+ghost use Rattle.vertex_numbers.specs.Rows.{IsRow};
 ghost use Rattle.vertex_numbers.specs.Sources.{Agrees, KnowsAround};
 
 use crate::StateSource;
-use crate::alike::follow;
 use crate::around::signs_around;
 use crate::nodes::nodes_around;
 use crate::pieces::pieces_up;
-use crate::rows::{Rows, rows_around};
+use crate::runs::{Row, row_of, run_after};
 use bcc_lattice::{columns, rows, vertex_in_row};
-use definitions::Sign;
 use st_base::{Dims, Vertex};
 
 /// The numbers of nodes and tetrahedra of the mesh that belong to a layer: the nodes at its vertices and
@@ -53,61 +51,56 @@ fn share_by_signs<S: StateSource>(from: &mut S, dims: Dims, v: Vertex) -> Share
     Share { nodes, tets }
 }
 
-/// What a vertex adds, at once where it and its neighbours upwards are known to be all Minus or all Plus.
+/// What so many vertices add that are all Plus, or all Minus, with their neighbours upwards.
 #[inline(always)]
-fn share_of<S: StateSource>(from: &mut S, dims: Dims, v: Vertex, alike: Option<Sign>) -> Share
-    requires dims { IsDims dims }
-    requires sizes { S.sizes from.old ≡ dims }
-    requires domain { InDomain dims v }
-    requires known { KnowsAround dims (S.knows from.old) v.h }
-    requires alike { IfSome alike (AreAlike dims (S.told from.old) v) }
-    ensures nodes { result.nodes ≡ vertex_nodes dims (S.told from.old) v }
-    ensures tets { result.tets ≡ vertex_pieces dims (S.told from.old) v }
-    ensures few_nodes { result.nodes ≤ 8 }
-    ensures few_tets { result.tets ≤ 18 }
-    ensures same { S.unchanged from.old from.new }
+fn share_of_run(is_plus: bool, len: u32) -> Share
+    requires { len < 2 ^ 24 }
+    ensures nodes { result.nodes ≡ len * (if is_plus then 1 else 0) }
+    ensures tets { result.tets ≡ len * (if is_plus then 6 else 0) }
 {
-    match alike {
-        Some(Sign::Minus) => Share { nodes: 0, tets: 0 },
-        Some(Sign::Plus) => Share { nodes: 1, tets: 6 },
-        _ => share_by_signs(from, dims, v),
+    if is_plus {
+        Share {
+            nodes: len,
+            tets: 6 * len as u64,
+        }
+    } else {
+        Share { nodes: 0, tets: 0 }
     }
 }
 
-/// What a vertex adds, and the sign of the next column along its row, if it has one.
+/// What vertices of a row one after another add, and the place after the last of them.
 #[derive(Clone, Copy)]
 struct Counted {
     share: Share,
-    next: Option<Sign>,
+    end: u32,
 }
 
-/// What a vertex adds, where `here` is the sign of its column, if it is known to have one.
+/// What the vertex at place `i` of a row and the run after it add.
 #[inline(always)]
-fn count_next<S: StateSource>(
-    from: &mut S,
-    dims: Dims,
-    v: Vertex,
-    rows: Rows,
-    here: Option<Sign>,
-) -> Counted
+#[tactic(auto, using(lattice_counts::proofs::Sizes::nx_small))]
+fn count_from<S: StateSource>(from: &mut S, dims: Dims, row: Row, i: u32) -> Counted
     requires dims { IsDims dims }
     requires sizes { S.sizes from.old ≡ dims }
-    requires domain { InDomain dims v }
-    requires known { KnowsAround dims (S.knows from.old) v.h }
-    requires rows { IsInnerRow dims v.h v.y → AreRows dims v.h v.y rows }
-    requires here { IfSome here (IsColumn dims (S.told from.old) v) }
-    ensures nodes { result.share.nodes ≡ vertex_nodes dims (S.told from.old) v }
-    ensures tets { result.share.tets ≡ vertex_pieces dims (S.told from.old) v }
-    ensures few_nodes { result.share.nodes ≤ 8 }
-    ensures few_tets { result.share.tets ≤ 18 }
-    ensures next { IfSome result.next (IsColumn dims (S.told from.old) (vertex v.h v.y (v.x + 2))) }
+    requires row { IsRow dims row }
+    requires known { KnowsAround dims (S.knows from.old) row.h }
+    requires place { i < row_len dims.nx row.h }
+    ensures nodes { result.share.nodes ≡ sum_by (nodes_at_id dims (S.told from.old)) (range_with_len (row.start + i) (result.end - i)) }
+    ensures tets { result.share.tets ≡ sum_by (pieces_at_id dims (S.told from.old)) (range_with_len (row.start + i) (result.end - i)) }
+    ensures few_nodes { result.share.nodes ≤ 8 * (result.end - i) }
+    ensures few_tets { result.share.tets ≤ 18 * (result.end - i) }
+    ensures low { i < result.end }
+    ensures high { result.end ≤ row_len dims.nx row.h }
     ensures same { S.unchanged from.old from.new }
 {
-    let seen = follow(from, dims, v, rows, here);
-    let share = share_of(from, dims, v, seen.alike);
+    let one = share_by_signs(from, dims, vertex_in_row(row.h, row.j, i));
+    let run = run_after(from, dims, row, i);
+    let more = share_of_run(run.is_plus, run.end - (i + 1));
     Counted {
-        share,
-        next: seen.next,
+        share: Share {
+            nodes: one.nodes + more.nodes,
+            tets: one.tets + more.tets,
+        },
+        end: run.end,
     }
 }
 
@@ -125,15 +118,14 @@ fn share_of_row<S: StateSource>(from: &mut S, dims: Dims, h: u32, j: u32) -> Sha
     ensures few_tets { result.tets ≤ 18 * row_len dims.nx h }
     ensures same { S.unchanged from.old from.new }
 {
+    let row = row_of(dims, h, j);
     let mut share = Share { nodes: 0, tets: 0 };
-    let rows = rows_around(dims, h, j * 2 + h % 2);
-    let mut here: Option<Sign> = None;
-    for i in 0..columns(dims, h) {
-        let v = vertex_in_row(h, j, i);
-        let more = count_next(from, dims, v, rows, here);
-        here = more.next;
+    let mut i = 0;
+    while i < columns(dims, h) {
+        let more = count_from(from, dims, row, i);
         share.nodes += more.share.nodes;
         share.tets += more.share.tets;
+        i = more.end;
     }
     share
 }

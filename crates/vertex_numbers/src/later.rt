@@ -2,7 +2,8 @@ ghost use Rattle.std.specs.Prelude.{◌≡◌, ◌+◌, ◌*◌, ◌<◌, ◌≤
 ghost use Rattle.definitions.specs.Lattice.{InDomain, IsDims, id as id_of, vertices};
 ghost use Rattle.vertex_numbers.specs.Later.{AreBelow, AreLater, HasAllLater, HaveSign};
 
-use bcc_lattice::{id, layers};
+use crate::steps::{column_ids, steps_of};
+use bcc_lattice::layers;
 use definitions::Sign;
 use snap_rule::States;
 use st_base::{Dims, Vertex};
@@ -37,70 +38,38 @@ pub fn has_all_later(dims: Dims, v: Vertex) -> bool
 /// The ids of the neighbours of a vertex upwards, which are all in the domain.
 #[inline(always)]
 #[tactic(auto, using(lattice_counts::proofs::Sizes::nx_small, lattice_counts::proofs::Sizes::ny_small, lattice_counts::proofs::Sizes::nz_small))]
-fn ids_of(dims: Dims, v: Vertex) -> Later
+fn ids_of(dims: Dims, v: Vertex, id: u32) -> Later
     requires sizes { IsDims dims }
     requires domain { InDomain dims v }
+    requires id { id ≡ id_of dims v }
     requires all { HasAllLater dims v }
     ensures later { AreLater dims v result }
     ensures below { AreBelow (length (vertices dims)) result }
 {
-    let Vertex { h, y, x } = v;
-    let first = id(dims, Vertex { h, y, x: x + 2 });
-    let second = id(dims, Vertex { h, y: y + 2, x });
-    let third = id(
-        dims,
-        Vertex {
-            h: h + 1,
-            y: y - 1,
-            x: x - 1,
-        },
-    );
-    let fourth = id(
-        dims,
-        Vertex {
-            h: h + 1,
-            y: y - 1,
-            x: x + 1,
-        },
-    );
-    let fifth = id(
-        dims,
-        Vertex {
-            h: h + 1,
-            y: y + 1,
-            x: x - 1,
-        },
-    );
-    let sixth = id(
-        dims,
-        Vertex {
-            h: h + 1,
-            y: y + 1,
-            x: x + 1,
-        },
-    );
-    let seventh = id(dims, Vertex { h: h + 2, y, x });
+    let ids = column_ids(dims, v, id, steps_of(dims, v.h, v.y));
     Later {
-        first,
-        second,
-        third,
-        fourth,
-        fifth,
-        sixth,
-        seventh,
+        first: id + 1,
+        second: ids.second,
+        third: ids.third,
+        fourth: ids.third + 1,
+        fifth: ids.fifth,
+        sixth: ids.fifth + 1,
+        seventh: ids.seventh,
     }
 }
 
 /// The ids of the neighbours of a vertex upwards, if all are in the domain.
 #[inline(always)]
-pub fn later_ids(dims: Dims, v: Vertex) -> Option<Later>
+pub fn later_ids(dims: Dims, v: Vertex, id: u32) -> Option<Later>
     requires sizes { IsDims dims }
     requires domain { InDomain dims v }
+    requires id { id ≡ id_of dims v }
+    ensures all { IfSome result (λ ids. HasAllLater dims v) }
     ensures later { IfSome result (AreLater dims v) }
     ensures below { IfSome result (AreBelow (length (vertices dims))) }
 {
     if has_all_later(dims, v) {
-        Some(ids_of(dims, v))
+        Some(ids_of(dims, v, id))
     } else {
         None
     }

@@ -8,9 +8,11 @@ mod later;
 mod nodes;
 mod offsets;
 mod pieces;
-mod rows;
+mod runs;
 mod source;
 mod starts;
+mod steps;
+mod walk;
 
 pub use around::signs_around;
 pub use counts::{LayerCount, layer_count};
@@ -20,3 +22,4 @@ pub use offsets::Offsets;
 pub use pieces::pieces_up;
 pub use source::StateSource;
 pub use starts::{Numbered, Starts};
+pub use walk::Walk;

@@ -1,19 +1,15 @@
-ghost use Rattle.std.specs.Prelude.{◌≡◌, ◌≤◌, ◌<◌, ◌+◌, ◌*◌, ◌/◌, ◌||◌, ◌∷◌, true, length, map, IfSome, List};
+ghost use Rattle.std.specs.Prelude.{◌≡◌, ◌≤◌, ◌<◌, ◌+◌, ◌*◌, ◌/◌, ◌||◌, ◌∷◌, true, length, map, List};
 ghost use Rattle.std.specs.List.{range_with_len};
 ghost use Rattle.definitions.specs.declared.State.{State};
-ghost use Rattle.definitions.specs.Lattice.{InDomain, IsDims, id, vertex, vertices, vertex_at};
+ghost use Rattle.definitions.specs.Lattice.{InDomain, IsDims, id, vertices, vertex_at};
 ghost use Rattle.definitions.specs.Mesh.{ArePadded, all_pieces, occurs};
 ghost use Rattle.definitions.specs.States.{sign_of_state};
-ghost use Rattle.vertex_numbers.specs.Alike.{AreAlike, IsColumn};
 ghost use Rattle.vertex_numbers.specs.Around.{signs_towards, has_plus_there, crosses, is_node, node_towards, nodes_of};
 ghost use Rattle.vertex_numbers.specs.Bits.{bits};
-ghost use Rattle.vertex_numbers.specs.Rows.{AreRows, IsInnerRow};
 ghost use Rattle.vertex_numbers.specs.Sources.{Agrees, KnowsAround};
 
 use crate::StateSource;
-use crate::alike::follow;
 use crate::around::{Around, has_plus, has_plus_towards, lacks_plus, sign_towards, signs_around};
-use crate::rows::Rows;
 use bcc_lattice::{sign_of, vertex_of};
 use definitions::Sign;
 use st_base::{Dims, Vertex};
@@ -82,61 +78,6 @@ pub fn nodes_around<S: StateSource>(from: &mut S, dims: Dims, v: Vertex, around:
             let is_node = is_node(from, dims, v, around);
             with_cuts(is_node, around)
         }
-    }
-}
-
-/// The nodes at a vertex, as bits, at once where it and its neighbours upwards are known to be all Minus or all Plus.
-#[inline(always)]
-fn nodes_by_signs<S: StateSource>(from: &mut S, dims: Dims, v: Vertex, alike: Option<Sign>) -> u8
-    requires dims { IsDims dims }
-    requires sizes { S.sizes from.old ≡ dims }
-    requires domain { InDomain dims v }
-    requires known { KnowsAround dims (S.knows from.old) v.h }
-    requires alike { IfSome alike (AreAlike dims (S.told from.old) v) }
-    ensures nodes { result ≡ bits (nodes_of dims (S.told from.old) v) }
-    ensures same { S.unchanged from.old from.new }
-{
-    match alike {
-        Some(Sign::Minus) => 0,
-        Some(Sign::Plus) => 1,
-        _ => {
-            let around = signs_around(from, dims, v);
-            nodes_around(from, dims, v, &around)
-        }
-    }
-}
-
-/// The nodes at a vertex, as bits, and the sign of the next column along its row, if it has one.
-#[derive(Clone, Copy)]
-pub struct Noted {
-    pub bits: u8,
-    pub next: Option<Sign>,
-}
-
-/// The nodes at a vertex, where `here` is the sign of its column, if it is known to have one.
-#[inline(always)]
-pub fn nodes_next<S: StateSource>(
-    from: &mut S,
-    dims: Dims,
-    v: Vertex,
-    rows: Rows,
-    here: Option<Sign>,
-) -> Noted
-    requires dims { IsDims dims }
-    requires sizes { S.sizes from.old ≡ dims }
-    requires domain { InDomain dims v }
-    requires known { KnowsAround dims (S.knows from.old) v.h }
-    requires rows { IsInnerRow dims v.h v.y → AreRows dims v.h v.y rows }
-    requires here { IfSome here (IsColumn dims (S.told from.old) v) }
-    ensures nodes { result.bits ≡ bits (nodes_of dims (S.told from.old) v) }
-    ensures next { IfSome result.next (IsColumn dims (S.told from.old) (vertex v.h v.y (v.x + 2))) }
-    ensures same { S.unchanged from.old from.new }
-{
-    let seen = follow(from, dims, v, rows, here);
-    let bits = nodes_by_signs(from, dims, v, seen.alike);
-    Noted {
-        bits,
-        next: seen.next,
     }
 }
 

@@ -3,7 +3,7 @@ ghost use Rattle.std.proofs.Common.{ap, ◌∙◌};
 ghost use Rattle.definitions.specs.declared.Dims.{Dims};
 ghost use Rattle.definitions.specs.declared.Vertex.{Vertex};
 ghost use Rattle.definitions.specs.declared.State.{State};
-ghost use Rattle.definitions.specs.Lattice.{InDomain, id as id_of};
+ghost use Rattle.definitions.specs.Lattice.{InDomain, id, id as id_of};
 ghost use Rattle.definitions.specs.Mesh.{state_at};
 ghost use Rattle.definitions.specs.States.{IsState, sign_of_state};
 
@@ -32,12 +32,12 @@ pub trait StateSource {
         ensures is_state { IsState result }
         ensures same { unchanged self.old self.new };
 
-    /// The sign of such a vertex, by its id.
+    /// The sign of a vertex by its id, in a layer that the source knows.
     fn sign_by_id(&mut self, _v: Vertex, id: u32) -> Sign
         requires domain { InDomain (sizes self.old) _v }
         requires known { knows self.old _v.h }
         requires id { id ≡ id_of (sizes self.old) _v }
-        ensures value { result ≡ sign_of_state (told self.old _v) }
+        ensures sign { result ≡ sign_of_state (told self.old _v) }
         ensures same { unchanged self.old self.new };
 
     ghost stays: { (s : Self) → unchanged s s };
@@ -56,7 +56,7 @@ impl StateSource for States {
 
     ghost knows = { λ s h. ⊤ };
 
-    ghost told = { λ s v. state_at s.states (id_of s.dims v) };
+    ghost told = { λ s v. state_at s.states (id s.dims v) };
 
     ghost unchanged = { λ s t. t ≡ s };
 
@@ -66,7 +66,7 @@ impl StateSource for States {
 
     ghost same_sizes = { λ s t p. ap (λ x. x.dims) p };
 
-    ghost same_told = { λ s t p. λ i. λ v. state_at (p i).states (id_of (p i).dims v) };
+    ghost same_told = { λ s t p. λ i. λ v. state_at (p i).states (id (p i).dims v) };
 
     ghost still_knows = { λ s t p h k. tt };
 
@@ -87,7 +87,7 @@ impl StateSource for &States {
 
     ghost knows = { λ s h. ⊤ };
 
-    ghost told = { λ s v. state_at s.now.states (id_of s.now.dims v) };
+    ghost told = { λ s v. state_at s.now.states (id s.now.dims v) };
 
     ghost unchanged = { λ s t. t ≡ s };
 
@@ -97,7 +97,7 @@ impl StateSource for &States {
 
     ghost same_sizes = { λ s t p. λ i. (p i).now.dims };
 
-    ghost same_told = { λ s t p. λ i. λ v. state_at (p i).now.states (id_of (p i).now.dims v) };
+    ghost same_told = { λ s t p. λ i. λ v. state_at (p i).now.states (id (p i).now.dims v) };
 
     ghost still_knows = { λ s t p h k. tt };
 

@@ -29,4 +29,4 @@ returns-then-not-has_nodes c =
 
 pub returns-in-Some : goal.returns-in-Some
 returns-in-Some c =
-    subst (λ (ts : List (List ℕ)). OnOk c.push_six.result (c.push_six.new.tets.items ≡ c.args.tets.now.items ++ ts)) (sym c.in-Some.ensures) c.push_six.ensures
+    subst (λ (ts : List (List ℕ)). OnOk c.push_six.result (c.push_six.new.tets.items ≡ c.args.tets.now.items ++ ts)) (sym c.in-Some.ensures.pieces) c.push_six.ensures

@@ -9,6 +9,7 @@ use Rattle.mesh_lists.proofs.LowestNodes.{vertex_without}
 use Rattle.slab_texts.specs.Texts.{Adds, AreAmong, AreMeasuredIn}
 use Rattle.mesh_lists.proofs.Layers.{numbers_layers}
 use Rattle.slab_texts.proofs.Pieces.{all_among, none}
+use Rattle.slab_texts.proofs.Stars.{are_star}
 use Rattle.slab_texts.proofs.tetrahedra.push_from.Goals as goal
 
 pub whole_numbers-requires-clause-numbers : goal.whole_numbers-requires-clause-numbers
@@ -18,23 +19,16 @@ whole_numbers-requires-clause-numbers c =
 
 pub push_whole-requires-clause-among : goal.push_whole-requires-clause-among
 push_whole-requires-clause-among c =
-    subst (λ (ts : List (List ℕ)). All (AreAmong c.args.nodes.now) ts) c.in-Some.ensures
+    subst (λ (ts : List (List ℕ)). All (AreAmong c.args.nodes.now) ts) c.in-Some.ensures.pieces
     (all_among c.args.states.now.dims c.args.states.now.states c.args.nodes.now c.requires.nodes c.args.v c.requires.domain c.requires.hold)
 
+pub push_whole-requires-clause-star : goal.push_whole-requires-clause-star
+push_whole-requires-clause-star c =
+    are_star c.args.states.now.dims c.args.states.now.states c.args.nodes.now c.requires.plus c.args.v c.in-Some.whole.own c.in-Some.whole.later c.requires.domain c.in-Some.ensures.plus (push_whole-requires-clause-among c)
+
 pub push_whole-requires-clause-measured : goal.push_whole-requires-clause-measured
-push_whole-requires-clause-measured c = subst (AreMeasuredIn c.args.nodes.now) c.in-Some.ensures c.requires.measured
+push_whole-requires-clause-measured c = subst (AreMeasuredIn c.args.nodes.now) c.in-Some.ensures.pieces c.requires.measured
 
 pub returns-in-Some-clause-adds : goal.returns-in-Some-clause-adds
 returns-in-Some-clause-adds c =
-    subst (λ (ts : List (List ℕ)). OnOk c.push_whole.result (Adds c.args.nodes.now c.args.out.now ts c.push_whole.new.out)) (sym c.in-Some.ensures) c.push_whole.ensures.adds
-
-pub returns-then-not-has_nodes-clause-adds : goal.returns-then-not-has_nodes-clause-adds
-returns-then-not-has_nodes-clause-adds c =
-    let d = c.args.states.now.dims in
-    let ss = c.args.states.now.states in
-    let nodes = c.args.nodes.now in
-    let empty : list_any (occurs (all_pieces d ss)) (keys_of_vertex (id d c.args.v)) ≡ false =
-    ap (λ n. list_any (occurs (all_pieces d ss)) (keys_of_vertex n)) (sym c.requires.id)
-    ∙ sym (layer_used d ss c.args.v nodes.starts c.args.id (numbers_layers d ss c.args.v.h nodes.start nodes.end nodes.starts c.requires.nodes.numbers c.requires.hold) c.requires.domain c.requires.id) ∙ sym c.has_nodes.ensures ∙ c.if-not-has_nodes.true
-    in
-    subst (λ (ps : List (List ℕ)). Adds nodes c.args.out.now (map (map (number_of (node_keys d ss))) ps) c.args.out.now) (sym (vertex_without d ss c.args.v c.requires.domain empty)) (none nodes c.args.out.now)
+    subst (λ (ts : List (List ℕ)). OnOk c.push_whole.result (Adds c.args.nodes.now c.args.out.now ts c.push_whole.new.out)) (sym c.in-Some.ensures.pieces) c.push_whole.ensures.adds

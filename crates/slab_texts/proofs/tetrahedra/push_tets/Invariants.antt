@@ -7,9 +7,14 @@ use Rattle.slab_texts.specs.Nodes.{pieces_at}
 use Rattle.slab_texts.specs.Texts.{Adds}
 use Rattle.slab_texts.proofs.tetrahedra.push_tets.Given as goal
 
-abbrev pub invariant-loop-id : goal.invariant-loop-id
-invariant-loop-id l = record {
-  at : l.id < length (vertices l.states.dims) → l.v ≡ vertex_at l.states.dims l.id;
-  adds : Adds l.nodes l.initial.out (numbered l.states.dims l.states.states (flat_map (pieces_at l.states.dims l.states.states) (range_with_len l.fn.from (l.id - l.fn.from)))) l.out;
-  few : l.out.number ≤ l.initial.out.number + 18 * (l.id - l.fn.from);
+abbrev pub invariant-loop-at : goal.invariant-loop-at
+invariant-loop-at l = record {
+  here : l.at.id < length (vertices l.states.dims) → l.at.v ≡ vertex_at l.states.dims l.at.id;
+  low : l.fn.from ≤ l.at.id;
+  high : l.at.id ≤ l.fn.to;
+  adds : Adds l.nodes l.initial.out (numbered l.states.dims l.states.states (flat_map (pieces_at l.states.dims l.states.states) (range_with_len l.fn.from (l.at.id - l.fn.from)))) l.out;
+  few : l.out.number ≤ l.initial.out.number + 18 * (l.at.id - l.fn.from);
 }
+
+abbrev pub decreases-loop-at : goal.decreases-loop-at
+decreases-loop-at l = l.fn.to - l.at.id

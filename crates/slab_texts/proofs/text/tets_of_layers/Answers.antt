@@ -15,9 +15,11 @@ use Rattle.vertex_numbers.proofs.LayerIds.{first_of_layer}
 use Rattle.vertex_numbers.proofs.LayerStarts.{counts_len}
 use Rattle.slab_texts.specs.Nodes.{AreInRow, HasNodes}
 use Rattle.slab_texts.specs.Spans.{span_angles, span_tet_lines, span_tets, tets_below}
+use Rattle.slab_texts.specs.Stars.{PlusOnLattice}
 use Rattle.slab_texts.specs.Texts.{IsMeasured, lines_if}
 use Rattle.slab_texts.proofs.Counts.{tets_few, tets_to}
 use Rattle.slab_texts.proofs.Places.{places_in_row}
+use Rattle.slab_texts.proofs.Stars.{plus_on_lattice}
 use Rattle.slab_texts.proofs.SpanIds.{AreIds, end_within, extremes_of_none, holds, mid_after, mid_before, mid_within, pieces_are, room}
 use Rattle.slab_texts.proofs.text.tets_of_layers.Goals as goal
 
@@ -38,15 +40,31 @@ ids d f e from to top start mid end same equal some within t s m u = record {
 pub begin-requires-clause-within : goal.begin-requires-clause-within
 begin-requires-clause-within c = subst (λ n. c.args.to ≤ n) (sym (ap length c.requires.offsets ∙ counts_len c.args.states.now.dims c.args.states.now.states)) c.requires.within
 
+-- they are in order, and within those of all vertices
+span_range : (f : Field) (d : Dims) (from to top start mid end : ℕ) → d ≡ f.dims → AreIds d from to top start mid end → (start ≤ end) × (end ≤ length (vertices f.dims))
+span_range f d from to top start mid end same i =
+    let a = mid_after d from to top start mid end i in
+    let b = mid_before d from to top start mid end i in
+    (omega arith, subst (λ (e : Dims). end ≤ length (vertices e)) same (end_within d from to top start mid end i))
+
 -- the places of their nodes and of those of the two layers above stand in a row
 span_row : (f : Field) (d : Dims) (ss : List State) (from to top start mid end first : ℕ) (places : List Place) → d ≡ f.dims → AreIds d from to top start mid end → first ≡ nodes_before f.dims ss start → places ≡ map (node_place f ss) (keys_of_ids f.dims ss start (end - start)) → AreInRow (mesh_of f ss).places first places
 span_row f d ss from to top start mid end first places same i at stand =
-    let low : start ≤ end = let a = mid_after d from to top start mid end i in let b = mid_before d from to top start mid end i in omega arith in
-    let within : end ≤ length (vertices f.dims) = subst (λ (e : Dims). end ≤ length (vertices e)) same (end_within d from to top start mid end i) in
-    places_in_row f ss start end first places low within at stand
+    let range = span_range f d from to top start mid end same i in
+    places_in_row f ss start end first places range.0 range.1 at stand
 
 pub push_tets-requires-clause-nodes : goal.push_tets-requires-clause-nodes
 push_tets-requires-clause-nodes c = subst (λ (d : Dims). HasNodes d c.args.states.now.states c.in_ok-nodes.nodes) (sym c.requires.sizes) c.in_ok-nodes.ensures.nodes
+
+pub push_tets-requires-clause-plus : goal.push_tets-requires-clause-plus
+push_tets-requires-clause-plus c =
+    let d = c.args.states.now.dims in
+    let ss = c.args.states.now.states in
+    let f = c.args.field.now in
+    let n = c.in_ok-nodes.nodes in
+    let i = ids d f.dims c.dims-dims.result c.args.from c.args.to _ _ _ _ c.requires.sizes c.dims-dims.ensures.dims c.requires.some c.requires.within (c.min-top.ensures ∙ ap (min (c.args.to + 2)) c.layers.ensures.layers) c.in_ok-nodes.ensures.start c.ids_below-end.ensures.start c.in_ok-nodes.ensures.end in
+    let range = span_range f d c.args.from c.args.to c.min-top.result n.start c.ids_below-end.result n.end c.requires.sizes i in
+    subst (λ (e : Dims). PlusOnLattice e ss n) (sym c.requires.sizes) (plus_on_lattice f ss n c.in_ok-nodes.ensures.nodes range.0 range.1 c.in_ok-nodes.ensures.places)
 
 pub push_tets-requires-clause-first : goal.push_tets-requires-clause-first
 push_tets-requires-clause-first c = λ lt.
