@@ -1,8 +1,7 @@
-ghost use Rattle.std.specs.Prelude.{◌≡◌, ◌≤◌, ◌<◌, ◌+◌, ◌-◌, ◌*◌, ◌%◌, true, ℕ, IfSome, Some};
-ghost use Rattle.definitions.specs.Lattice.{InDomain, IsDims, id as id_of, layers, vertex};
-ghost use Rattle.lattice_counts.specs.Counts.{row_len};
+ghost use Rattle.std.specs.Prelude.{◌≡◌, ◌≤◌, true, Some};
+ghost use Rattle.definitions.specs.Lattice.{InDomain, IsDims, id as id_of};
 ghost use Rattle.vertex_numbers.specs.Around.{sign_towards};
-ghost use Rattle.vertex_numbers.specs.Alike.{AreAlike, HasColumn, HasNext, IsColumn, IsUp};
+ghost use Rattle.vertex_numbers.specs.Alike.{HasColumn, IsColumn, IsUp};
 ghost use Rattle.vertex_numbers.specs.Sources.{KnowsAround};
 ghost use Rattle.vertex_numbers.specs.Steps.{AreColumnIds, AreSteps};
 

@@ -1,5 +1,5 @@
-ghost use Rattle.std.specs.Prelude.{◌≡◌, ◌≤◌, ◌<◌, ◌+◌, ◌||◌, not, true, false, Some};
-ghost use Rattle.definitions.specs.Lattice.{InDomain, IsDims, id as id_of, neighbour};
+ghost use Rattle.std.specs.Prelude.{◌≡◌, ◌≤◌, ◌||◌, not, true, Some};
+ghost use Rattle.definitions.specs.Lattice.{InDomain, IsDims, id as id_of};
 ghost use Rattle.definitions.specs.States.{sign_of_state};
 ghost use Rattle.definitions.specs.Stencils.{is_plus};
 ghost use Rattle.vertex_numbers.specs.Alike.{IsUp};

@@ -1,4 +1,4 @@
-ghost use Rattle.std.specs.Prelude.{◌≡◌, ◌+◌, ◌*◌, ◌<◌, ◌≤◌, true, length, IfSome};
+ghost use Rattle.std.specs.Prelude.{◌≡◌, ◌<◌, true, length, IfSome};
 ghost use Rattle.definitions.specs.Lattice.{InDomain, IsDims, id as id_of, vertices};
 ghost use Rattle.vertex_numbers.specs.Later.{AreBelow, AreLater, HasAllLater, HaveSign};
 

@@ -1,10 +1,10 @@
-ghost use Rattle.std.specs.Prelude.{◌≡◌, ◌≤◌, ◌<◌, ◌+◌, ◌*◌, ◌/◌, ◌||◌, ◌∷◌, true, length, map, List};
+ghost use Rattle.std.specs.Prelude.{◌≡◌, ◌≤◌, ◌<◌, ◌*◌, ◌/◌, ◌∷◌, true, length, map, List};
 ghost use Rattle.std.specs.List.{range_with_len};
 ghost use Rattle.definitions.specs.declared.State.{State};
 ghost use Rattle.definitions.specs.Lattice.{InDomain, IsDims, id, vertices, vertex_at};
 ghost use Rattle.definitions.specs.Mesh.{ArePadded, all_pieces, occurs};
 ghost use Rattle.definitions.specs.States.{sign_of_state};
-ghost use Rattle.vertex_numbers.specs.Around.{signs_towards, has_plus_there, crosses, is_node, node_towards, nodes_of};
+ghost use Rattle.vertex_numbers.specs.Around.{signs_towards, crosses, is_node, node_towards, nodes_of};
 ghost use Rattle.vertex_numbers.specs.Bits.{bits};
 ghost use Rattle.vertex_numbers.specs.Sources.{Agrees, KnowsAround};
 

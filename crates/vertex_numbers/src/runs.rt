@@ -1,6 +1,5 @@
-ghost use Rattle.std.specs.Prelude.{◌≡◌, ◌≤◌, ◌<◌, ◌+◌, ◌*◌, ◌%◌, true, ℕ};
-ghost use Rattle.definitions.specs.declared.Sign.TheVariants.{Minus, Plus};
-ghost use Rattle.definitions.specs.Lattice.{InDomain, IsDims, layers};
+ghost use Rattle.std.specs.Prelude.{◌≡◌, ◌≤◌, ◌<◌, ◌+◌, true, ℕ};
+ghost use Rattle.definitions.specs.Lattice.{IsDims, layers};
 ghost use Rattle.lattice_counts.specs.Counts.{row_len};
 ghost use Rattle.vertex_numbers.specs.Alike.{HasNext, IsColumn};
 ghost use Rattle.vertex_numbers.specs.Rows.{AreAlikeWithin, IsRow, row_vertex, sign_if_plus};

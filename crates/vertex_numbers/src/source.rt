@@ -1,4 +1,4 @@
-ghost use Rattle.std.specs.Prelude.{◌≡◌, ◌≤◌, ◌<◌, ◌+◌, ℕ, ⊤, refl};
+ghost use Rattle.std.specs.Prelude.{◌≡◌, ℕ, ⊤, refl};
 ghost use Rattle.std.proofs.Common.{ap, ◌∙◌};
 ghost use Rattle.definitions.specs.declared.Dims.{Dims};
 ghost use Rattle.definitions.specs.declared.Vertex.{Vertex};
