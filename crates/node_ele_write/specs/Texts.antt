@@ -1,5 +1,6 @@
 -- Numbers as texts behind a space.
 use Rattle.std.specs.Prelude.{◌≡◌, ℕ, ◌+◌, ◌*◌, ◌^◌, ◌<◌, ◌≤◌, List, [], ◌∷◌, ◌++◌, decimal, length, slice_index, take, ℤ}
+use Rattle.std.specs.Int.{w32, from_le_bytes}
 use Rattle.definitions.specs.declared.Place.{Place}
 use Rattle.formats.specs.declared.Frame.{Frame}
 use Rattle.mesh_texts.specs.Frames.{frame_text, world_text}
@@ -9,7 +10,11 @@ use Rattle.mesh_texts.specs.Coordinates.{padded_decimal}
 abbrev pub spaced : ℕ → List ℕ
 spaced n = 32 ∷ decimal n
 
--- a number with twelve bytes: its text, and in the last one how long this is
+-- the number in the last four of sixteen bytes
+abbrev pub last_word : List ℕ → ℕ
+last_word bytes = from_le_bytes w32 (slice_index bytes 12 ∷ slice_index bytes 13 ∷ slice_index bytes 14 ∷ slice_index bytes 15 ∷ [])
+
+-- a number with sixteen bytes: its text, in the twelfth how long this is, and in the last four the number
 pub record NumberText : Type 0 where
   pub bytes : List ℕ
   pub number : ℕ
@@ -18,6 +23,12 @@ pub record IsText (t : NumberText) : Type 0 where
   pub text : take (length (spaced t.number)) t.bytes ≡ spaced t.number
   pub count : slice_index t.bytes 11 ≡ length (spaced t.number)
   pub few : length (spaced t.number) ≤ 11
+
+-- such bytes, read to be put into a buffer
+pub record IsRead (bytes : List ℕ) (len : ℕ) : Type 0 where
+  pub text : IsText (record { bytes = bytes; number = last_word bytes })
+  pub length_is : len ≡ slice_index bytes 11
+  pub wide : length bytes ≡ 16
 
 -- a number with bytes, of which the first `len` are the digits of it before the last of a number of 64 bits
 pub record FrontText : Type 0 where
@@ -28,6 +39,7 @@ pub record FrontText : Type 0 where
 pub record IsFront (f : FrontText) : Type 0 where
   pub text : (digit : ℕ) → digit < 10 → 10 * f.tens + digit < 2 ^ 64 → decimal (10 * f.tens + digit) ≡ take f.len f.bytes ++ (48 + digit) ∷ []
   pub few : f.len ≤ 19
+  pub wide : length f.bytes ≡ 32
 
 -- the bytes of a row, and where they end in its buffer
 pub record RowText : Type 0 where

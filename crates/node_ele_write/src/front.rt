@@ -2,16 +2,20 @@ ghost use Rattle.std.specs.Prelude.{◌≡◌, ◌+◌, ◌*◌, ◌^◌, ◌<�
 
 use itoa::write_digits;
 use std::marker::Model;
+use std::simd::prelude::*;
 
-/// The bytes that are copied; no number of 64 bits has as many digits before its last.
-const WIDTH: usize = 20;
+/// The bytes that are copied.
+const WIDTH: usize = 32;
+
+/// No number of 64 bits has more digits.
+const DIGITS: usize = 20;
 
 /// The digits of a number before its last, which ten numbers in a row share.
 ///
 /// They are the first `len` of the bytes, at most 19, and the number is ten times `tens` and the last digit.
 #[derive(Drop)]
 pub struct Front {
-    bytes: [u8; WIDTH],
+    bytes: u8x32,
     len: usize,
     tens: u64,
 }
@@ -32,7 +36,7 @@ impl Front {
         ensures { result.tens ≡ 0 }
     {
         Front {
-            bytes: [0; WIDTH],
+            bytes: u8x32::splat(0),
             len: 0,
             tens: 0,
         }
@@ -44,18 +48,17 @@ impl Front {
         requires small { 10 * tens < 2 ^ 64 }
         ensures { result.tens ≡ tens }
     {
-        let mut scratch = [0; 2 * WIDTH];
-        let start = write_digits(tens, &mut scratch, WIDTH);
-        let mut bytes = [0; WIDTH];
-        bytes.copy_from_slice(&scratch[start..start + WIDTH]);
+        let mut scratch = [0; DIGITS + WIDTH];
+        let start = write_digits(tens, &mut scratch, DIGITS);
         Front {
-            bytes,
-            len: WIDTH - start,
+            bytes: u8x32::from_slice(&scratch[start..]),
+            len: DIGITS - start,
             tens,
         }
     }
 
     // Turns to numbers with other digits before their last.
+    #[inline(never)]
     fn turn(&mut self, tens: u64)
         requires { 10 * tens < 2 ^ 64 }
         ensures { self.new.tens ≡ tens }
@@ -67,16 +70,44 @@ impl Front {
         };
     }
 
-    // Puts a number with these digits before its last into a buffer from `end` on, and answers where it ends.
+    /// Turns to a number, and answers its last digit.
     #[inline(always)]
-    fn put_digit(&self, bytes: &mut [u8], end: usize, digit: u8) -> usize
+    pub fn begin(&mut self, number: u64) -> u8
+        ensures digit { result < 10 }
+        ensures number { 10 * self.new.tens + result ≡ number }
+    {
+        let tens = number / 10;
+        if tens != self.tens {
+            self.turn(tens);
+        }
+        (number % 10) as u8
+    }
+
+    /// Turns from the number whose last digit is `digit` to the next, and answers the last digit of this.
+    #[inline(always)]
+    pub fn next(&mut self, digit: u8) -> u8
+        requires digit { digit < 10 }
+        requires small { 10 * self.old.tens + digit + 1 < 2 ^ 64 }
+        ensures digit { result < 10 }
+        ensures number { 10 * self.new.tens + result ≡ 10 * self.old.tens + digit + 1 }
+    {
+        if digit < 9 {
+            return digit + 1;
+        }
+        self.turn(self.tens + 1);
+        0
+    }
+
+    /// Puts the number whose last digit is `digit` into a buffer from `end` on, and answers where it ends.
+    #[inline(always)]
+    pub fn put_digit(&self, bytes: &mut [u8], end: usize, digit: u8) -> usize
         requires digit { digit < 10 }
         requires small { 10 * self.now.tens + digit < 2 ^ 64 }
         requires room { end + WIDTH ≤ length bytes.old }
         ensures text { take result bytes.new ≡ take end bytes.old ++ decimal (10 * self.now.tens + digit) }
-        ensures end { result ≤ end + WIDTH }
+        ensures end { result ≤ end + DIGITS }
     {
-        bytes[end..end + WIDTH].copy_from_slice(&self.bytes);
+        self.bytes.copy_to_slice(&mut bytes[end..end + WIDTH]);
         let last = end + self.len;
         bytes[last] = b'0' + digit;
         last + 1
@@ -87,12 +118,9 @@ impl Front {
     pub fn put(&mut self, bytes: &mut [u8], end: usize, number: u64) -> usize
         requires { end + WIDTH ≤ length bytes.old }
         ensures text { take result bytes.new ≡ take end bytes.old ++ decimal number }
-        ensures end { result ≤ end + WIDTH }
+        ensures end { result ≤ end + DIGITS }
     {
-        let tens = number / 10;
-        if tens != self.tens {
-            self.turn(tens);
-        }
-        self.put_digit(bytes, end, (number % 10) as u8)
+        let digit = self.begin(number);
+        self.put_digit(bytes, end, digit)
     }
 }

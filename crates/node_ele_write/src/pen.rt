@@ -4,6 +4,7 @@ ghost use Rattle.mesh_texts.specs.Coordinates.{coordinate_text};
 ghost use Rattle.mesh_texts.specs.Frames.{world_text, world_value as world_value_lem};
 ghost use Rattle.mesh_texts.specs.Lines.{ele_lines as ele_lines_lem, marker_text, node_line as node_line_lem, renumbered};
 ghost use Rattle.node_ele_write.specs.Printable.{IsPrintable};
+ghost use Rattle.node_ele_write.specs.Stars.{star_tets};
 ghost use Rattle.node_ele_write.specs.Texts.{spaced};
 
 use crate::fractions::Fractions;
@@ -11,9 +12,9 @@ use crate::front::Front;
 use crate::line::Line;
 use crate::own_units::world_value;
 use crate::row::{ROW, Row};
-use crate::tet_lines::{LINES, append, make_room, put_line};
+use crate::tet_lines::{LINES, append, make_room, put_line, put_star};
 use crate::text::node_line;
-use crate::texts::Texts;
+use crate::texts::{Texts, WIDTH};
 use crate::world_texts::{PLACES, WorldTexts};
 use st_base::{Axis, Frame, NoMemory, Place};
 use std::alloc::Global;
@@ -78,7 +79,7 @@ impl Pen {
     /// Puts the text of a number behind the row.
     #[inline(always)]
     fn text(&mut self, number: u32)
-        requires { self.old.row.end + 12 ≤ ROW }
+        requires { self.old.row.end + WIDTH ≤ ROW }
         ensures text { self.new.row.text ≡ self.old.row.text ++ spaced number }
         ensures end { self.new.row.end ≤ self.old.row.end + 11 }
     {
@@ -228,6 +229,36 @@ impl Pen {
                 tets[n],
             );
         }
+        append(out, &self.lines, end)
+    }
+
+    /// Appends the lines of the six tetrahedra round a vertex, which have it and three of seven others as nodes, and are
+    /// numbered from `number` on, and their nodes from `first` on.
+    pub fn star_lines(
+        &mut self,
+        out: &mut Vec<u8>,
+        number: u64,
+        first: u32,
+        own: u32,
+        others: &[u32; 7],
+    ) -> Result<(), NoMemory>
+        requires numbers { number + 6 ≤ 2 ^ 64 }
+        requires own { first + own < 2 ^ 32 }
+        requires others { All (λ n. first + n < 2 ^ 32) others.now }
+        ensures { OnOk result (out.new.items ≡ out.old.items ++ ele_lines_lem number (map (renumbered first) (star_tets own others.now))) }
+    {
+        let [a, b, c, d, e, f, g] = *others;
+        let own = self.texts.text(first + own);
+        let others = [
+            self.texts.text(first + a),
+            self.texts.text(first + b),
+            self.texts.text(first + c),
+            self.texts.text(first + d),
+            self.texts.text(first + e),
+            self.texts.text(first + f),
+            self.texts.text(first + g),
+        ];
+        let end = put_star(&mut self.lines, &mut self.front, number, &own, &others);
         append(out, &self.lines, end)
     }
 }

@@ -1,15 +1,45 @@
-ghost use Rattle.std.specs.Prelude.{◌≡◌, ◌+◌, ◌^◌, ◌<◌, ◌≤◌, ◌++◌, All, length, take, IfOk, OnOk};
-ghost use Rattle.mesh_texts.specs.Lines.{ele_line, renumbered};
+ghost use Rattle.std.specs.Prelude.{◌≡◌, ◌+◌, ◌*◌, ◌^◌, ◌<◌, ◌≤◌, [], ◌∷◌, ◌++◌, All, length, map, take, IfOk, OnOk};
+ghost use Rattle.mesh_texts.specs.Lines.{ele_line, ele_lines, renumbered};
+ghost use Rattle.node_ele_write.specs.Stars.{star_tets};
 
 use crate::front::Front;
-use crate::texts::Texts;
+use crate::texts::{Text, Texts};
 use st_base::NoMemory;
 
 /// The bytes of a buffer for lines of tetrahedra, seven at least.
 pub const LINES: usize = 512;
 
-/// No line of a tetrahedron has more bytes: a number of 64 bits, four of 32, each behind a space, and the line's end.
-const LINE: usize = 65;
+/// No line of a tetrahedron takes more bytes: a number of 64 bits, three of 32, each behind a space, and what is copied
+/// of the last.
+const LINE: usize = 69;
+
+/// Puts the line of a tetrahedron, by the last digit of its number and the texts of its nodes, into a buffer from `end`
+/// on, and answers where it ends.
+#[inline(always)]
+fn put_texts(
+    bytes: &mut [u8; LINES],
+    end: usize,
+    front: &Front,
+    digit: u8,
+    a: &Text,
+    b: &Text,
+    c: &Text,
+    d: &Text,
+) -> usize
+    requires digit { digit < 10 }
+    requires small { 10 * front.now.tens + digit < 2 ^ 64 }
+    requires room { end + LINE ≤ LINES }
+    ensures text { take result bytes.new ≡ take end bytes.old ++ ele_line (10 * front.now.tens + digit, a.now.number ∷ b.now.number ∷ c.now.number ∷ d.now.number ∷ []) }
+    ensures end { result ≤ end + LINE }
+{
+    let end = front.put_digit(bytes, end, digit);
+    let end = a.put(bytes, end);
+    let end = b.put(bytes, end);
+    let end = c.put(bytes, end);
+    let end = d.put(bytes, end);
+    bytes[end] = b'\n';
+    end + 1
+}
 
 /// Puts the line of a tetrahedron, whose nodes are numbered from `first` on, into a buffer from `end` on, and answers
 /// where it ends.
@@ -29,13 +59,41 @@ pub fn put_line(
     ensures end { result ≤ LINES }
 {
     let [a, b, c, d] = nodes;
-    let end = front.put(bytes, end, number);
-    let end = texts.text(first + a).put(bytes, end);
-    let end = texts.text(first + b).put(bytes, end);
-    let end = texts.text(first + c).put(bytes, end);
-    let end = texts.text(first + d).put(bytes, end);
-    bytes[end] = b'\n';
-    end + 1
+    let a = texts.text(first + a);
+    let b = texts.text(first + b);
+    let c = texts.text(first + c);
+    let d = texts.text(first + d);
+    let digit = front.begin(number);
+    put_texts(bytes, end, front, digit, &a, &b, &c, &d)
+}
+
+/// Puts the lines of the six tetrahedra round a vertex, by the texts of it and of seven others, into a buffer, and
+/// answers where they end.
+#[inline(always)]
+pub fn put_star(
+    bytes: &mut [u8; LINES],
+    front: &mut Front,
+    number: u64,
+    own: &Text,
+    others: &[Text; 7],
+) -> usize
+    requires { number + 6 ≤ 2 ^ 64 }
+    ensures text { take result bytes.new ≡ ele_lines number (star_tets own.now.number (map (λ t. t.number) others.now)) }
+    ensures end { result ≤ LINES }
+{
+    let [a, b, c, d, e, f, g] = others;
+    let digit = front.begin(number);
+    let end = put_texts(bytes, 0, front, digit, own, a, f, d);
+    let digit = front.next(digit);
+    let end = put_texts(bytes, end, front, digit, own, b, e, f);
+    let digit = front.next(digit);
+    let end = put_texts(bytes, end, front, digit, own, c, d, g);
+    let digit = front.next(digit);
+    let end = put_texts(bytes, end, front, digit, own, c, g, e);
+    let digit = front.next(digit);
+    let end = put_texts(bytes, end, front, digit, own, d, f, g);
+    let digit = front.next(digit);
+    put_texts(bytes, end, front, digit, own, e, g, f)
 }
 
 /// Puts the first bytes of a buffer behind a text.

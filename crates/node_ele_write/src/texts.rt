@@ -1,13 +1,14 @@
-ghost use Rattle.std.specs.Prelude.{◌≡◌, ◌+◌, ◌≤◌, ◌++◌, length, take};
+ghost use Rattle.std.specs.Prelude.{◌≡◌, ◌+◌, ◌<◌, ◌≤◌, [], ◌++◌, length, slice_index_or, take};
 ghost use Rattle.node_ele_write.specs.Texts.{spaced};
 
 use itoa::write_digits;
 use st_base::NoMemory;
 use std::alloc::Global;
 use std::marker::Model;
+use std::simd::prelude::*;
 
-/// A space and at most ten digits, and a byte that says how many bytes these are.
-pub const WIDTH: usize = 12;
+/// A space and at most ten digits, a byte that says how many bytes these are, and the number.
+pub const WIDTH: usize = 16;
 
 /// Where that byte stands.
 const LENGTH: usize = 11;
@@ -15,28 +16,27 @@ const LENGTH: usize = 11;
 /// How many texts are held.
 const SLOTS: u32 = 1 << 16;
 
-/// A number as text behind a space, with its length, in sixteen bytes.
+/// A number as text behind a space, its length, and the number, as they are held.
 #[derive(Clone, Copy)]
-pub struct Text {
+struct Slot {
     bytes: [u8; WIDTH],
-    number: u32,
 }
 
-impl Model for Text {
-    ghost use Rattle.node_ele_write.specs.Texts.{IsText, NumberText};
+impl Model for Slot {
+    ghost use Rattle.node_ele_write.specs.Texts.{IsText, NumberText, last_word};
 
     ghost Value = { NumberText };
 
-    ghost view = { λ t. record { bytes = t.bytes; number = t.number } };
+    ghost view = { λ t. record { bytes = t.bytes; number = last_word t.bytes } };
 
-    ghost invariant = { λ t. IsText (record { bytes = t.bytes; number = t.number }) };
+    ghost invariant = { λ t. IsText (record { bytes = t.bytes; number = last_word t.bytes }) };
 
-    ghost inverse = { λ v. record { bytes = v.bytes; number = v.number } };
+    ghost inverse = { λ v. record { bytes = v.bytes } };
 }
 
-impl Text {
-    /// The text of a number.
-    pub fn new(number: u32) -> Text
+impl Slot {
+    // The text of a number.
+    fn new(number: u32) -> Slot
         ensures { result.number ≡ number }
     {
         let mut scratch = [0; LENGTH + WIDTH];
@@ -45,17 +45,57 @@ impl Text {
         let mut bytes = [0; WIDTH];
         bytes.copy_from_slice(&scratch[start..start + WIDTH]);
         bytes[LENGTH] = (LENGTH - start) as u8;
-        Text { bytes, number }
+        let [a, b, c, d] = number.to_le_bytes();
+        bytes[12] = a;
+        bytes[13] = b;
+        bytes[14] = c;
+        bytes[15] = d;
+        Slot { bytes }
     }
 
-    /// The number.
+    // The number.
     #[inline(always)]
-    pub fn number(&self) -> u32
+    fn number(&self) -> u32
         ensures { result ≡ self.now.number }
     {
-        self.number
+        u32::from_le_bytes([
+            self.bytes[12],
+            self.bytes[13],
+            self.bytes[14],
+            self.bytes[15],
+        ])
     }
 
+    // The text by itself.
+    #[inline(always)]
+    fn text(&self) -> Text
+        ensures { result.number ≡ self.now.number }
+    {
+        Text {
+            bytes: u8x16::from_slice(&self.bytes),
+            len: self.bytes[LENGTH] as usize,
+        }
+    }
+}
+
+/// A number as text behind a space. It is the first `len` of sixteen bytes.
+#[derive(Drop)]
+pub struct Text {
+    bytes: u8x16,
+    len: usize,
+}
+
+impl Model for Text {
+    ghost use Rattle.node_ele_write.specs.Texts.{IsRead, NumberText, last_word};
+
+    ghost Value = { NumberText };
+
+    ghost view = { λ t. record { bytes = t.bytes; number = last_word t.bytes } };
+
+    ghost invariant = { λ t. IsRead t.bytes t.len };
+}
+
+impl Text {
     /// Puts the text into a buffer from `end` on, and answers where it ends.
     #[inline(always)]
     pub fn put(&self, bytes: &mut [u8], end: usize) -> usize
@@ -64,8 +104,8 @@ impl Text {
         ensures grows { end ≤ result }
         ensures end { result ≤ end + 11 }
     {
-        bytes[end..end + WIDTH].copy_from_slice(&self.bytes);
-        end + self.bytes[LENGTH] as usize
+        self.bytes.copy_to_slice(&mut bytes[end..end + WIDTH]);
+        end + self.len
     }
 }
 
@@ -73,7 +113,7 @@ impl Text {
 /// soon is not made a text again. There are always [`SLOTS`] texts.
 #[derive(Drop)]
 pub struct Texts {
-    slots: Vec<Text>,
+    slots: Vec<Slot>,
 }
 
 impl Model for Texts {
@@ -91,10 +131,19 @@ impl Model for Texts {
 impl Texts {
     /// Room for texts.
     pub fn new(alloc: Global) -> Result<Texts, NoMemory> {
-        let Ok(slots) = vec![in alloc; Text::new(0); SLOTS as usize] else {
+        let Ok(slots) = vec![in alloc; Slot::new(0); SLOTS as usize] else {
             return Err(NoMemory);
         };
         Ok(Texts { slots })
+    }
+
+    // Puts the text of a number at its place.
+    #[inline(never)]
+    fn renew(&mut self, at: usize, number: u32)
+        requires { at < SLOTS }
+        ensures { (slice_index_or self.new at (record { bytes = []; number = 0 })).number ≡ number }
+    {
+        self.slots[at] = Slot::new(number);
     }
 
     /// The text of a number.
@@ -104,8 +153,8 @@ impl Texts {
     {
         let at = (number % SLOTS) as usize;
         if self.slots[at].number() != number {
-            self.slots[at] = Text::new(number);
+            self.renew(at, number);
         }
-        self.slots[at]
+        self.slots[at].text()
     }
 }
