@@ -123,7 +123,17 @@ fn push_known_six(whole: &Whole, pen: &mut Pen, out: &mut TetLines) -> Result<()
     if out.writes {
         let first = out.numbering;
         let number = u64::from(first) + out.number;
-        pen.ele_lines(&mut out.text, number, u32::from(first), &six_tets(whole))?;
+        let later = &whole.later;
+        let others = [
+            later.first,
+            later.second,
+            later.third,
+            later.fourth,
+            later.fifth,
+            later.sixth,
+            later.seventh,
+        ];
+        pen.star_lines(&mut out.text, number, u32::from(first), whole.own, &others)?;
     }
     out.number += 6;
     Ok(())
