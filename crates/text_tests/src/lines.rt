@@ -1,3 +1,4 @@
+ghost use Rattle.std.specs.Prelude.{◌+◌, ◌^◌, ◌<◌};
 ghost use Rattle.node_ele_write.specs.Printable.{IsPrintable};
 
 use definitions::{Cosine, Extreme, Extremes};
@@ -28,6 +29,11 @@ const OWN: Frame = Frame {
         },
     ]),
 };
+
+// The number of a vertex, and those of seven others, from 0.
+const OWN_NUMBER: u32 = 6;
+
+const OTHERS: [u32; 7] = [9, 65_535, 65_542, 99, 1000, 4_294_967_294, 0];
 
 const ORIGIN: Place = Place { x: 0, y: 0, z: 0 };
 
@@ -98,6 +104,45 @@ fn pen_writes_lines(rt: HostRuntime) -> Result<(), NoMemory> {
         second.as_slice(),
         b"1 9.8571166992187500000000000000000 -20.1428833007812500000000000000000 -0.3215332031250000000000000000000 1\n".as_slice()
     );
+    Ok(())
+}
+
+// The lines of the six tetrahedra round a vertex, at once and one after another. Its text and that of another are held in
+// one place.
+fn star_lines(alloc: Global, number: u64) -> Result<(Vec<u8>, Vec<u8>), NoMemory>
+    requires { number + 6 < 2 ^ 64 }
+{
+    let [a, b, c, d, e, f, g] = OTHERS;
+    let tets = [
+        [OWN_NUMBER, a, f, d],
+        [OWN_NUMBER, b, e, f],
+        [OWN_NUMBER, c, d, g],
+        [OWN_NUMBER, c, g, e],
+        [OWN_NUMBER, d, f, g],
+        [OWN_NUMBER, e, g, f],
+    ];
+    let mut pen = Pen::new(alloc)?;
+    let mut star = Vec::new(alloc);
+    pen.star_lines(&mut star, number, 1, OWN_NUMBER, &OTHERS)?;
+    let mut lines = Vec::new(alloc);
+    pen.ele_lines(&mut lines, number, 1, &tets)?;
+    Ok((star, lines))
+}
+
+#[test]
+fn pen_writes_stars(rt: HostRuntime) -> Result<(), NoMemory> {
+    let (star, lines) = star_lines(rt.alloc(), 9)?;
+    assert_eq!(rt;
+        star.as_slice(),
+        b"9 7 10 4294967295 100\n10 7 65536 1001 4294967295\n11 7 65543 100 1\n12 7 65543 1 1001\n13 7 100 4294967295 1\n14 7 1001 1 4294967295\n".as_slice()
+    );
+    assert_eq!(rt; star.as_slice(), lines.as_slice());
+    let (star, lines) = star_lines(rt.alloc(), 99)?;
+    assert_eq!(rt; star.as_slice(), lines.as_slice());
+    let (star, lines) = star_lines(rt.alloc(), 4_294_967_290)?;
+    assert_eq!(rt; star.as_slice(), lines.as_slice());
+    let (star, lines) = star_lines(rt.alloc(), 18_446_744_073_709_551_609)?;
+    assert_eq!(rt; star.as_slice(), lines.as_slice());
     Ok(())
 }
 
