@@ -103,15 +103,6 @@ front_made start tens written rest new some small e long w copied =
         let last : (10 * tens + digit) % 10 ≡ digit = omega arith in
         decimal_step (10 * tens + digit) (omega arith) fits ∙ (λ i. decimal (front i) ++ (48 + last i) ∷ [])
 
--- a value of each of four
-pub four_mapped : {A : Type 0} (f : A → ℕ) (x : A) (xs : List A) → length xs ≡ 4 → map f xs ≡ f (get_or xs 0 x) ∷ f (get_or xs 1 x) ∷ f (get_or xs 2 x) ∷ f (get_or xs 3 x) ∷ []
-four_mapped f o [] l = absurd (omega arith)
-four_mapped f o (v ∷ []) l = absurd (omega arith)
-four_mapped f o (v ∷ (w ∷ [])) l = absurd (omega arith)
-four_mapped f o (v ∷ (w ∷ (x ∷ []))) l = absurd (omega arith)
-four_mapped f o (v ∷ (w ∷ (x ∷ (y ∷ (z ∷ zs))))) l = absurd (omega arith)
-four_mapped f o (v ∷ (w ∷ (x ∷ (y ∷ [])))) l = refl
-
 -- the number of a text among others
 number_at : (xs : List NumberText) (i : ℕ) (t : NumberText) → i < length xs → (get_or xs i t).number ≡ slice_index (map (λ t. t.number) xs) i
 number_at xs i t within = sym (get_or-map (λ t. t.number) xs i t 0 within)

@@ -1,4 +1,4 @@
-use Rattle.std.proofs.Common.{ℕ, List, [], ◌∷◌, All, ◌+◌, ◌<◌, ◌^◌, arith}
+use Rattle.std.proofs.Common.{ℕ, [], ◌∷◌, ◌+◌, ◌<◌, ◌^◌, arith}
 use Rattle.std.proofs.lemmas.List.Elements.{All-cons, All-nil}
 use Rattle.slab_texts.proofs.lines.push_known_six.Goals as goal
 

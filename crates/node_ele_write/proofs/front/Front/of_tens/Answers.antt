@@ -1,4 +1,4 @@
-use Rattle.std.proofs.Common.{◌≡◌, ◌-◌, ◌+◌, arith, drop, rules, take}
+use Rattle.std.proofs.Common.{◌-◌, arith, drop, rules}
 use Rattle.std.proofs.lemmas.List.{take-take}
 use Rattle.node_ele_write.proofs.Decimals.{any_length}
 use Rattle.node_ele_write.proofs.TetLines.{front_made}
