@@ -10,7 +10,7 @@ ghost use Rattle.std.specs.List.{list_all};
 ghost use Rattle.definitions.specs.Pieces.{pieces as pieces_of, corner_key};
 ghost use Rattle.lattice_laws.specs.NumberedTetrahedra.{IsNumberedTet, is_corner, rank};
 ghost use Rattle.definitions.specs.Stencils.{corners, same_corner};
-ghost use Rattle.stencils.specs.Cases.{has_places, listed};
+ghost use Rattle.stencils.specs.Cases.{IsCase, has_places, listed};
 ghost use Rattle.stencils.specs.Frames.{ten_keys, are_directions};
 
 mod cases;
@@ -18,10 +18,12 @@ mod filled;
 mod frames;
 
 pub use bcc_lattice::Tet;
-use cases::{Case, Row, row_of_signs};
+pub use cases::Case;
+use cases::{Row, row_of_signs};
 pub use definitions::{Corner, Sign, Vertex};
 pub use filled::Pieces;
 use frames::frame_of;
+pub use frames::{Frame, frame_of_kind};
 
 /// The pieces of a lattice tetrahedron with these signs: the keys of their nodes, oriented and in order.
 ///
@@ -98,6 +100,14 @@ fn is_same(a: Corner, b: Corner) -> bool
         (Corner::Cut(k, m), Corner::Cut(l, n)) => k == l && m == n,
         _ => false,
     }
+}
+
+/// The pieces with these signs of a lattice tetrahedron whose volume is below zero, or of one whose volume is above.
+#[inline(always)]
+pub fn case_of_signs(signs: [Sign; 4], is_turned: bool) -> &'static Case
+    ensures { IsCase is_turned signs result.now }
+{
+    case_of(row_of_signs(signs), is_turned)
 }
 
 fn case_of(row: &'static Row, is_turned: bool) -> &'static Case

@@ -8,10 +8,12 @@ ghost use Rattle.node_laws.specs.Used.{told};
 ghost use Rattle.vertex_numbers.specs.Counts.{layer_counts, row_start};
 ghost use Rattle.vertex_numbers.specs.Numbering.{HasRoom, HoldsKey, IsDraft, IsEmpty, NumbersIds, NumbersMesh, mesh_bits, nodes_before, number_in, used_in};
 ghost use Rattle.vertex_numbers.specs.Rows.{AreAlikeWithin, IsRow, sign_if_plus};
+ghost use Rattle.vertex_numbers.specs.VertexNodes.{AreNodesAt};
 
 use crate::Offsets;
 use crate::nodes::nodes_at;
 use crate::runs::{Row, Run, row_of, run_after};
+use crate::vertex_nodes::VertexNodes;
 use bcc_lattice::{columns, ids_below, layers, rows, vertex_in_row};
 use snap_rule::States;
 use st_base::{Dims, NoMemory, Vertex};
