@@ -143,3 +143,19 @@ module _ (tet : List Vertex) (ids : List ℕ) (signs : List Sign) (h : IsNumbere
         ∙ (ap length entry_fits.pieces
         ∙ (sym (length-map (case_pieces (is_turned tet) signs) (map (corner_key tet ids)))
         ∙ ap length (sym (pieces_of_case tet ids signs h len)))))
+
+-- the pieces by a function of keys, as an entry's places among the values of this function at the ten keys
+pub mapped_of_entry : (f : ℕ → ℕ) (tet : List Vertex) (ids : List ℕ) (signs : List Sign) → IsNumberedTet tet ids → length signs ≡ 4 → (frame : Frame) → FitsFrame tet frame → (case : Case) → IsCase frame.is_turned signs case →
+    (ten : List ℕ) → ten ≡ map f (ten_keys ids frame.directions) → map (map (λ n. slice_index ten n)) (listed case) ≡ map (map f) (pieces tet ids signs)
+mapped_of_entry f tet ids signs h len frame fits case is_entry ten are =
+    let key = corner_key tet ids in
+    let value = λ (c : Corner). f (corner_key tet ids c) in
+    let all : ten ≡ map value corners = are ∙ (λ i. map f (ten_keys ids (fits.directions i))) in
+    let entry : IsCase (is_turned tet) signs case = subst (λ (turned : Bool). IsCase turned signs case) fits.turned is_entry in
+    let places = case_pieces (is_turned tet) signs in
+    (λ i. map (map (λ n. slice_index (all i) n)) (listed case))
+    ∙ (keys_of_entry value case entry.places
+    ∙ (ap (map (map value)) entry.pieces
+    ∙ ((λ i. map (λ p. sym (map-map f key p) i) places)
+    ∙ (sym (map-map (map f) (map key) places)
+    ∙ ap (map (map f)) (sym (pieces_of_case tet ids signs h len))))))

@@ -151,24 +151,26 @@ fn keys_of_case(keys: &[u32; 10], case: &Case) -> Pieces
     if case.len == 1 {
         return Pieces {
             len: 1,
-            of: [keys_at(keys, p), [0; 4], [0; 4]],
+            of: [at_places(keys, p), [0; 4], [0; 4]],
         };
     }
     Pieces {
         len: case.len,
-        of: [keys_at(keys, p), keys_at(keys, q), keys_at(keys, r)],
+        of: [at_places(keys, p), at_places(keys, q), at_places(keys, r)],
     }
 }
 
-fn keys_at(keys: &[u32; 10], places: [u8; 4]) -> [u32; 4]
+/// Those of ten that stand in four places, as the keys, or the numbers, of the nodes of a piece.
+#[inline(always)]
+pub fn at_places(ten: &[u32; 10], places: [u8; 4]) -> [u32; 4]
     requires { IsTrue (list_all (λ n. nat_lt n 10) places) }
-    ensures { result ≡ map (λ n. slice_index keys.now n) places }
+    ensures { result ≡ map (λ n. slice_index ten.now n) places }
 {
     let [a, b, c, d] = places;
     [
-        keys[usize::from(a)],
-        keys[usize::from(b)],
-        keys[usize::from(c)],
-        keys[usize::from(d)],
+        ten[usize::from(a)],
+        ten[usize::from(b)],
+        ten[usize::from(c)],
+        ten[usize::from(d)],
     ]
 }

@@ -405,6 +405,20 @@ impl Starts {
         self.before[(id - self.first) as usize]
     }
 
+    /// The nodes at one of these vertices.
+    #[inline(always)]
+    pub fn vertex_nodes(&self, id: u32) -> VertexNodes
+        requires low { self.now.first ≤ id }
+        requires high { id < self.now.first + self.now.len }
+        ensures { AreNodesAt self.now id result }
+    {
+        let at = (id - self.first) as usize;
+        VertexNodes {
+            before: self.before[at],
+            bits: self.nodes[at],
+        }
+    }
+
     /// The number of a node of one of these vertices.
     pub fn number(&self, key: u32) -> u32
         requires { HoldsKey self.now key }
