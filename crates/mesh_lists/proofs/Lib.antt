@@ -9,4 +9,5 @@ pub mod LowestNodes
 pub mod Sizes
 pub mod Meshes
 pub mod WholeTetrahedra
+pub mod PiecesOfKinds
 pub mod MeshAngles

@@ -44,9 +44,9 @@ has_number d ss n v tet key padded h inside m o =
     let here : HoldsKey n key = record { low = k.1.0; high = k.1.1 } in
     record { here = here; number = h.number key here k.0 }
 
-numbers_same : (f g : ℕ → ℕ) (keys : List ℕ) → AllByRecursion (λ key. f key ≡ g key) keys → map f keys ≡ map g keys
-numbers_same f g [] h = refl
-numbers_same f g (k ∷ keys) h = λ i. h.0 i ∷ numbers_same f g keys h.1 i
+pub mapped_same : {X Y : Type 0} (f g : X → Y) (xs : List X) → AllByRecursion (λ x. f x ≡ g x) xs → map f xs ≡ map g xs
+mapped_same f g [] h = refl
+mapped_same f g (x ∷ xs) h = λ i. h.0 i ∷ mapped_same f g xs h.1 i
 
 -- the keys of a piece of a lattice tetrahedron have numbers
 module _ (d : Dims) (ss : List State) (n : Numbering) (padded : ArePadded d ss) (v : Vertex) (h : NumbersLayers d ss v.h n) (inside : InDomain d v) (tet : List Vertex) (t : Has tet (tets_from d v)) (m : ℕ) (e : List ℕ) (lt : m < length (tet_pieces d ss tet)) where
@@ -60,7 +60,7 @@ module _ (d : Dims) (ss : List State) (n : Numbering) (padded : ArePadded d ss) 
 
   pub piece_numbers : map (number_in n) (get_or (tet_pieces d ss tet) m e) ≡ map (number_of (node_keys d ss)) (get_or (tet_pieces d ss tet) m e)
   piece_numbers =
-      numbers_same (number_in n) (number_of (node_keys d ss)) (get_or (tet_pieces d ss tet) m e)
+      mapped_same (number_in n) (number_of (node_keys d ss)) (get_or (tet_pieces d ss tet) m e)
       (all_from_place (λ key. number_in n key ≡ number_of (node_keys d ss) key) (get_or (tet_pieces d ss tet) m e)
       (λ k z kt. (has_number d ss n v tet (get_or (get_or (tet_pieces d ss tet) m e) k z) padded h inside t (occurs_in_piece k z kt)).number))
 

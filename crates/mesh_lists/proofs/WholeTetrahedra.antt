@@ -28,7 +28,7 @@ use Rattle.stencils.specs.Frames.{kind_number}
 use Rattle.stencils.proofs.FramesOfKinds.{frame_at, frame_fits}
 use Rattle.vertex_numbers.specs.Around.{has_plus_there, is_node, signs_towards}
 use Rattle.vertex_numbers.specs.declared.Later.{Later}
-use Rattle.vertex_numbers.specs.Later.{AreBelow}
+use Rattle.vertex_numbers.specs.Later.{AreBelow, AreLater}
 use Rattle.vertex_numbers.specs.Numbering.{HoldsKey, Numbering, number_in}
 use Rattle.vertex_numbers.proofs.NodesTold.{node_occurs}
 use Rattle.mesh_lists.specs.Layers.{AreFrom, NumbersLayers}
@@ -46,22 +46,22 @@ unfolding fill facets kept
 one_piece = refl
 
 -- which kind it is, by the first two of its upper vertices
-kind_0 : (v a b : Vertex) → a.h ≡ v.h → a.y ≡ v.y → kind_number v a b ≡ 0
+pub kind_0 : (v a b : Vertex) → a.h ≡ v.h → a.y ≡ v.y → kind_number v a b ≡ 0
 kind_0 v a b h y = grind (arith, nat_tests)
 
-kind_1 : (v a b : Vertex) → a.h ≡ v.h → a.y ≡ v.y + 2 → kind_number v a b ≡ 1
+pub kind_1 : (v a b : Vertex) → a.h ≡ v.h → a.y ≡ v.y + 2 → kind_number v a b ≡ 1
 kind_1 v a b h y = grind (arith, nat_tests)
 
-kind_2 : (v a b : Vertex) → a.h ≡ v.h + 1 → a.y + 1 ≡ v.y → a.x + 1 ≡ v.x → b.y + 1 ≡ v.y → kind_number v a b ≡ 2
+pub kind_2 : (v a b : Vertex) → a.h ≡ v.h + 1 → a.y + 1 ≡ v.y → a.x + 1 ≡ v.x → b.y + 1 ≡ v.y → kind_number v a b ≡ 2
 kind_2 v a b h y x z = grind (arith, nat_tests)
 
-kind_3 : (v a b : Vertex) → a.h ≡ v.h + 1 → a.y + 1 ≡ v.y → a.x + 1 ≡ v.x → b.y ≡ v.y + 1 → kind_number v a b ≡ 3
+pub kind_3 : (v a b : Vertex) → a.h ≡ v.h + 1 → a.y + 1 ≡ v.y → a.x + 1 ≡ v.x → b.y ≡ v.y + 1 → kind_number v a b ≡ 3
 kind_3 v a b h y x z = grind (arith, nat_tests)
 
-kind_4 : (v a b : Vertex) → a.h ≡ v.h + 1 → a.y + 1 ≡ v.y → a.x ≡ v.x + 1 → kind_number v a b ≡ 4
+pub kind_4 : (v a b : Vertex) → a.h ≡ v.h + 1 → a.y + 1 ≡ v.y → a.x ≡ v.x + 1 → kind_number v a b ≡ 4
 kind_4 v a b h y x = grind (arith, nat_tests)
 
-kind_5 : (v a b : Vertex) → a.h ≡ v.h + 1 → a.y ≡ v.y + 1 → kind_number v a b ≡ 5
+pub kind_5 : (v a b : Vertex) → a.h ≡ v.h + 1 → a.y ≡ v.y + 1 → kind_number v a b ≡ 5
 kind_5 v a b h y = grind (arith, nat_tests)
 
 module _ (d : Dims) (ss : List State) where
@@ -105,7 +105,7 @@ module _ (d : Dims) (ss : List State) where
     abbrev six : List (List Vertex)
     six = (v ∷ w1 ∷ w4 ∷ w6 ∷ []) ∷ (v ∷ w2 ∷ w5 ∷ w6 ∷ []) ∷ (v ∷ w3 ∷ w4 ∷ w7 ∷ []) ∷ (v ∷ w3 ∷ w5 ∷ w7 ∷ []) ∷ (v ∷ w4 ∷ w6 ∷ w7 ∷ []) ∷ (v ∷ w5 ∷ w6 ∷ w7 ∷ []) ∷ []
 
-    six_tets : tets_from d v ≡ six
+    pub six_tets : tets_from d v ≡ six
     six_tets =
         tets_by_triples d v
         ∙ (λ i. map (λ c. v ∷ c) (cons_option (three (e1 i) (e4 i) (e6 i)) (cons_option (three (e2 i) (e5 i) (e6 i)) (cons_option (three (e3 i) (e4 i) (e7 i)) (cons_option (three (e3 i) (e5 i) (e7 i)) (cons_option (three (e4 i) (e6 i) (e7 i)) (cons_option (three (e5 i) (e6 i) (e7 i)) [])))))))
@@ -170,7 +170,7 @@ pub record IsThere (d : Dims) (v : Vertex) (dir n : ℕ) : Type 0 where
   pub leads : neighbour d v dir true ≡ Some there
   pub number : id d there ≡ n
 
-there_is : (d : Dims) (v : Vertex) (dir n : ℕ) → option_map (id d) (neighbour d v dir true) ≡ Some n → IsThere d v dir n
+pub there_is : (d : Dims) (v : Vertex) (dir n : ℕ) → option_map (id d) (neighbour d v dir true) ≡ Some n → IsThere d v dir n
 there_is d v dir n e = go (neighbour d v dir true) refl e
   where
     go : (o : Option Vertex) → neighbour d v dir true ≡ o → option_map (id d) o ≡ Some n → IsThere d v dir n
@@ -197,7 +197,7 @@ module _ (d : Dims) (ss : List State) (padded : ArePadded d ss) (n : Numbering) 
       eighth : (i : ℕ) → i ≡ 8 * i / 8
       eighth i = omega arith
 
-  module _ (v : Vertex) (ids : Later) (inside : InDomain d v) (layer_is : v.h ≡ g) (w : IsWhole d ss v ids) where
+  module _ (v : Vertex) (ids : Later) (inside : InDomain d v) (layer_is : v.h ≡ g) where
     inside_of : (dir m : ℕ) (t : IsThere d v dir m) → InDomain d t.there
     inside_of dir m t = domain_out d t.there (neighbour_to d v t.there dir t.leads).1
 
@@ -226,9 +226,8 @@ module _ (d : Dims) (ss : List State) (padded : ArePadded d ss) (n : Numbering) 
     one_held : (dir m : ℕ) (t : IsThere d v dir m) → (g ≤ t.there.h) × (t.there.h ≤ g + 2) → (n.first ≤ m) × (m < n.first + n.len)
     one_held dir m t near = subst (λ (i : ℕ). (n.first ≤ i) × (i < n.first + n.len)) t.number (vertex_held d g n.first (n.first + n.len) t.there h.hold (inside_of dir m t) near.0 near.1)
 
-    pub later_held : AreFrom n.first ids × AreBelow (n.first + n.len) ids
-    later_held =
-        let l = w.later in
+    pub later_held : AreLater d v ids → AreFrom n.first ids × AreBelow (n.first + n.len) ids
+    later_held l =
         let t1 = there_is d v 1 ids.first l.first in
         let h1 = one_held 1 ids.first t1 (near_1 ids.first t1) in
         let t2 = there_is d v 2 ids.second l.second in
@@ -252,7 +251,7 @@ module _ (d : Dims) (ss : List State) (padded : ArePadded d ss) (n : Numbering) 
       node = record { plus = ap (λ j. sign_of_state (state_at ss j)) t.number ∙ p; is = sym (plus_number t.there m number (inside_of dir m t) near.0 near.1 t.number p e) };
     }
 
-    module _ (numbers : Later) (own : ℕ) (own_is : own ≡ number_in n (8 * id d v)) (are : AreNumbers n ids numbers) where
+    module _ (w : IsWhole d ss v ids) (numbers : Later) (own : ℕ) (own_is : own ≡ number_in n (8 * id d v)) (are : AreNumbers n ids numbers) where
       pub plus_nodes : ArePlusNodes d ss v own numbers
       plus_nodes =
           let l = w.later in

@@ -4,6 +4,7 @@
 
 mod angles;
 mod build;
+mod kinds;
 mod list;
 mod mesh;
 mod places;

@@ -9,6 +9,7 @@ ghost use Rattle.mesh_lists.specs.Layers.{NumbersLayers};
 ghost use Rattle.mesh_lists.specs.Parts.{keys_of_vertex, numbered, numbered_from, numbered_in};
 ghost use Rattle.vertex_numbers.specs.Numbering.{HoldsKey, NumbersMesh, number_in, used_in};
 
+use crate::kinds::push_kinds;
 use crate::list::push;
 use crate::whole::{push_six, whole_numbers};
 use bcc_lattice::{Tet, first_vertex, next_vertex, tets_at, vertex_count};
@@ -16,7 +17,7 @@ use snap_rule::States;
 use st_base::{NoMemory, Sign, Vertex};
 use std::alloc::Global;
 use stencils::pieces;
-use vertex_numbers::Starts;
+use vertex_numbers::{Starts, later_ids};
 
 /// The signs of the vertices of a lattice tetrahedron.
 fn signs_of(states: &States, tet: &Tet) -> [Sign; 4]
@@ -72,8 +73,8 @@ fn push_pieces(
     Ok(())
 }
 
-/// The pieces of the lattice tetrahedra whose lowest vertex is `v`, by node numbers.
-pub fn push_tets_from(
+/// The pieces of the lattice tetrahedra whose lowest vertex is `v`, by node numbers, also where it lacks neighbours upwards.
+fn push_tets_at_rim(
     states: &States,
     starts: &Starts,
     v: Vertex,
@@ -90,6 +91,27 @@ pub fn push_tets_from(
         push_pieces(states, starts, v, &from.of[n as usize], tets)?;
     }
     Ok(())
+}
+
+/// The pieces of the lattice tetrahedra whose lowest vertex is `v`, by node numbers.
+pub fn push_tets_from(
+    states: &States,
+    starts: &Starts,
+    v: Vertex,
+    id: u32,
+    tets: &mut Vec<[u32; 4]>,
+) -> Result<(), NoMemory>
+    requires padded { ArePadded states.now.dims states.now.states }
+    requires numbers { NumbersLayers states.now.dims states.now.states v.h starts.now }
+    requires domain { InDomain states.now.dims v }
+    requires id { id ≡ id_of states.now.dims v }
+    ensures { OnOk result (tets.new.items
+        ≡ tets.old.items ++ numbered_from states.now.dims states.now.states v) }
+{
+    match later_ids(states.dims(), v, id) {
+        Some(later) => push_kinds(states, starts, v, id, &later, tets),
+        None => push_tets_at_rim(states, starts, v, tets),
+    }
 }
 
 /// The pieces of the lattice tetrahedra whose lowest vertex is `v`, by node numbers; at once where neither the vertex
@@ -115,7 +137,7 @@ fn push_tets_at(
     }
     match whole_numbers(states, starts, v, id) {
         Some(whole) => push_six(tets, &whole),
-        None => push_tets_from(states, starts, v, tets),
+        None => push_tets_from(states, starts, v, id, tets),
     }
 }
 

@@ -1,10 +1,10 @@
 -- Walks over vertices that have nodes: the others are the lowest vertices of no piece.
-use Rattle.std.proofs.Common.{◌≡◌, ℕ, zero, suc, ◌+◌, ◌-◌, ◌*◌, ◌<◌, ◌≤◌, ◌||◌, arith, refl, ap, sym, subst, ◌∙◌, Bool, false, List, [], ◌++◌, append-nil, length}
+use Rattle.std.proofs.Common.{◌≡◌, ℕ, zero, suc, ◌+◌, ◌-◌, ◌*◌, ◌<◌, ◌≤◌, ◌||◌, arith, refl, ap, sym, ◌∙◌, Bool, false, List, [], ◌++◌, append-nil, length}
 use Rattle.std.specs.Prelude.{flat_map, slice_index}
 use Rattle.std.specs.List.{list_any, range_with_len}
 use Rattle.definitions.specs.declared.Dims.{Dims}
 use Rattle.definitions.specs.declared.State.{State}
-use Rattle.definitions.specs.Lattice.{id, vertex_at, vertices}
+use Rattle.definitions.specs.Lattice.{vertex_at, vertices}
 use Rattle.definitions.specs.Mesh.{all_pieces, occurs}
 use Rattle.vertex_numbers.specs.Numbering.{Numbering, TellsUsed}
 use Rattle.mesh_lists.specs.Parts.{keys_of_vertex, numbered}

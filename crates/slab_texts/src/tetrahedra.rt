@@ -20,19 +20,21 @@ fn push_pieces(
     states: &States,
     nodes: &Nodes,
     v: Vertex,
+    id: u32,
     tools: &mut Tools,
     out: &mut TetLines,
 ) -> Result<(), NoMemory>
     requires nodes { HasNodes states.now.dims states.now.states nodes.now }
     requires domain { InDomain states.now.dims v }
     requires hold { HoldLayers states.now.dims v.h nodes.now.start nodes.now.end }
+    requires id { id ≡ id_of states.now.dims v }
     requires measured { AreMeasuredIn nodes.now (numbered_from states.now.dims states.now.states v) }
     requires room { out.old.number + 18 < 2 ^ 63 }
     ensures adds { OnOk result (Adds nodes.now out.old (numbered_from states.now.dims states.now.states v) out.new) }
     ensures few { out.new.number ≤ out.old.number + 18 }
 {
     tools.tets.clear();
-    push_tets_from(states, &nodes.starts, v, &mut tools.tets)?;
+    push_tets_from(states, &nodes.starts, v, id, &mut tools.tets)?;
     push_all(nodes, &tools.tets, &mut tools.pen, out)
 }
 
@@ -60,7 +62,7 @@ fn push_from(
 {
     match whole_numbers(states, &nodes.starts, v, id) {
         Some(whole) => push_whole(nodes, &whole, &mut tools.pen, out),
-        None => push_pieces(states, nodes, v, tools, out),
+        None => push_pieces(states, nodes, v, id, tools, out),
     }
 }
 

@@ -1,5 +1,5 @@
 -- The frame that the table has for a lattice tetrahedron is its own.
-use Rattle.std.proofs.Common.{◌≡◌, ℕ, false, List, [], ◌∷◌, if◌then◌else◌, refl, sym, ap, ◌∙◌, arith, pos}
+use Rattle.std.proofs.Common.{◌≡◌, ℕ, zero, suc, ◌<◌, true, false, List, [], ◌∷◌, if◌then◌else◌, refl, sym, ap, ◌∙◌, arith, pos}
 use Rattle.std.specs.Prelude.{slice_index_or, int_lt}
 use Rattle.definitions.specs.declared.Vertex.{Vertex}
 use Rattle.definitions.specs.declared.Corner.TheVariants.{Whole}
@@ -17,6 +17,15 @@ use Rattle.stencils.proofs.KindModels.{kind_model, has_kind}
 
 abbrev pub frame_at : ℕ → Frame
 frame_at n = slice_index_or FRAMES n (record { directions = []; is_turned = false })
+
+pub small_at : (n : ℕ) → n < 6 → are_directions (frame_at n).directions ≡ true
+small_at zero h = refl
+small_at (suc zero) h = refl
+small_at (suc (suc zero)) h = refl
+small_at (suc (suc (suc zero))) h = refl
+small_at (suc (suc (suc (suc zero)))) h = refl
+small_at (suc (suc (suc (suc (suc zero))))) h = refl
+small_at (suc (suc (suc (suc (suc (suc n)))))) h = absurd (omega arith)
 
 abbrev pub number_of : List Vertex → ℕ
 number_of tet = kind_number (slot tet 0) (slot tet 1) (slot tet 2)

@@ -15,7 +15,7 @@ use Rattle.definitions.specs.Pieces.{corner_key, oriented, pieces}
 use Rattle.lattice_laws.specs.FiniteTests.{every_case}
 use Rattle.lattice_laws.specs.Kinds.{Kind, kind_146}
 use Rattle.lattice_laws.specs.Vectors.{Vector}
-use Rattle.lattice_laws.specs.NumberedTetrahedra.{IsNumberedTet}
+use Rattle.lattice_laws.specs.NumberedTetrahedra.{IsNumberedTet, is_corner}
 use Rattle.lattice_laws.proofs.FiniteTests.{each_case}
 use Rattle.lattice_laws.proofs.KeyOrder.{pieces_by_table}
 use Rattle.stencils.specs.declared.cases.Case.{Case}
@@ -97,7 +97,22 @@ pub nothing_mapped : {X Y Z : Type 0} (f : X → Y) (g : X → Z) (xs : List X) 
 nothing_mapped f g [] e = refl
 nothing_mapped f g (x ∷ xs) e = cc
 
--- ---- a row of the table at a tetrahedron
+-- ---- a row of the table
+
+pub entry_of : (signs : List Sign) (row : Row) → FitsCase signs row → (turned : Bool) → IsCase turned signs (if turned then row.turned else row.straight)
+entry_of signs row fits true = fits.turned
+entry_of signs row fits false = fits.straight
+
+-- its pieces have the nodes that a tetrahedron can have
+all_are_corners : (turned : Bool) → every_case (λ signs. list_all (list_all is_corner) (case_pieces turned signs)) ≡ true
+unfolding kept facets fill oriented case_pieces
+all_are_corners true = refl
+all_are_corners false = refl
+
+pub case_corners : (turned : Bool) (signs : List Sign) → length signs ≡ 4 → list_all (list_all is_corner) (case_pieces turned signs) ≡ true
+case_corners turned signs len = each_case (λ signs. list_all (list_all is_corner) (case_pieces turned signs)) (all_are_corners turned) signs len
+
+-- ---- at a tetrahedron
 
 module _ (tet : List Vertex) (ids : List ℕ) (signs : List Sign) (h : IsNumberedTet tet ids) (len : length signs ≡ 4) (row : Row) (fits : FitsCase signs row) where
   -- where the row has no pieces, there are none
@@ -107,13 +122,9 @@ module _ (tet : List Vertex) (ids : List ℕ) (signs : List Sign) (h : IsNumbere
       let e : map (oriented (model false)) (unoriented signs) ≡ [] = sym fits.straight.pieces ∙ (λ i. map (map corner_at) (take (none i) row.straight.of)) in
       sym (pieces_by_table tet ids signs h ∙ nothing_mapped (oriented (model false)) (λ p. map (corner_key tet ids) (oriented tet p)) (unoriented signs) e)
 
-  entry_of : (turned : Bool) → IsCase turned signs (if turned then row.turned else row.straight)
-  entry_of true = fits.turned
-  entry_of false = fits.straight
-
   module _ (frame : Frame) (case : Case) (f : FitsFrame tet frame) (is_entry : case ≡ (if frame.is_turned then row.turned else row.straight)) where
     entry_fits : IsCase (is_turned tet) signs case
-    entry_fits = subst (λ (entry : Case). IsCase (is_turned tet) signs entry) (sym (is_entry ∙ (λ i. if f.turned i then row.turned else row.straight))) (entry_of (is_turned tet))
+    entry_fits = subst (λ (entry : Case). IsCase (is_turned tet) signs entry) (sym (is_entry ∙ (λ i. if f.turned i then row.turned else row.straight))) (entry_of signs row fits (is_turned tet))
 
     -- and else the pieces are those of its entry, with the keys filled in
     pub pieces_of_row : (keys : List ℕ) → keys ≡ ten_keys ids frame.directions → map (map (λ n. slice_index keys n)) (listed case) ≡ pieces tet ids signs
@@ -132,3 +143,19 @@ module _ (tet : List Vertex) (ids : List ℕ) (signs : List Sign) (h : IsNumbere
         ∙ (ap length entry_fits.pieces
         ∙ (sym (length-map (case_pieces (is_turned tet) signs) (map (corner_key tet ids)))
         ∙ ap length (sym (pieces_of_case tet ids signs h len)))))
+
+-- the pieces by a function of keys, as an entry's places among the values of this function at the ten keys
+pub mapped_of_entry : (f : ℕ → ℕ) (tet : List Vertex) (ids : List ℕ) (signs : List Sign) → IsNumberedTet tet ids → length signs ≡ 4 → (frame : Frame) → FitsFrame tet frame → (case : Case) → IsCase frame.is_turned signs case →
+    (ten : List ℕ) → ten ≡ map f (ten_keys ids frame.directions) → map (map (λ n. slice_index ten n)) (listed case) ≡ map (map f) (pieces tet ids signs)
+mapped_of_entry f tet ids signs h len frame fits case is_entry ten are =
+    let key = corner_key tet ids in
+    let value = λ (c : Corner). f (corner_key tet ids c) in
+    let all : ten ≡ map value corners = are ∙ (λ i. map f (ten_keys ids (fits.directions i))) in
+    let entry : IsCase (is_turned tet) signs case = subst (λ (turned : Bool). IsCase turned signs case) fits.turned is_entry in
+    let places = case_pieces (is_turned tet) signs in
+    (λ i. map (map (λ n. slice_index (all i) n)) (listed case))
+    ∙ (keys_of_entry value case entry.places
+    ∙ (ap (map (map value)) entry.pieces
+    ∙ ((λ i. map (λ p. sym (map-map f key p) i) places)
+    ∙ (sym (map-map (map f) (map key) places)
+    ∙ ap (map (map f)) (sym (pieces_of_case tet ids signs h len))))))

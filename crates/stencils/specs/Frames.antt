@@ -4,6 +4,7 @@ use Rattle.std.specs.List.{list_all}
 use Rattle.definitions.specs.declared.Vertex.{Vertex}
 use Rattle.definitions.specs.Lattice.{direction}
 use Rattle.definitions.specs.Pieces.{slot}
+use Rattle.lattice_laws.specs.NumberedTetrahedra.{IsNumberedTet}
 use Rattle.stencils.specs.declared.frames.Frame.{Frame}
 use Rattle.stencils.specs.Cases.{is_turned}
 
@@ -47,3 +48,7 @@ ten_keys ids directions =
     ∷ (8 * slice_index ids 2 + slice_index directions 5)
     ∷ (8 * slice_index ids 3)
     ∷ []
+
+-- the frame is that of each lattice tetrahedron of this kind
+abbrev pub IsFrameOfKind : ℕ → Frame → Type 0
+IsFrameOfKind kind frame = (tet : List Vertex) (ids : List ℕ) → IsNumberedTet tet ids → kind_number (slot tet 0) (slot tet 1) (slot tet 2) ≡ kind → FitsFrame tet frame

@@ -1,7 +1,7 @@
 //! The six kinds of lattice tetrahedra.
-ghost use Rattle.std.specs.Prelude.{◌≡◌, ◌<◌};
+ghost use Rattle.std.specs.Prelude.{◌≡◌, ◌<◌, IsTrue};
 ghost use Rattle.lattice_laws.specs.NumberedTetrahedra.{IsNumberedTet};
-ghost use Rattle.stencils.specs.Frames.{FitsFrame, kind_number};
+ghost use Rattle.stencils.specs.Frames.{FitsFrame, IsFrameOfKind, are_directions, kind_number};
 
 use crate::Tet;
 use definitions::Vertex;
@@ -41,6 +41,17 @@ static FRAMES: [Frame; 6] = [
         is_turned: true,
     },
 ];
+
+/// The frame of the lattice tetrahedra of a kind. From a vertex, those to its neighbours in the directions (1, 4, 6), (2, 5, 6),
+/// (3, 4, 7), (3, 5, 7), (4, 6, 7) and (5, 6, 7) are of the kinds 0 to 5.
+#[inline(always)]
+pub fn frame_of_kind(kind: usize) -> &'static Frame
+    requires { kind < 6 }
+    ensures frame { IsFrameOfKind kind result.now }
+    ensures small { IsTrue (are_directions result.now.directions) }
+{
+    &FRAMES[kind]
+}
 
 /// The frame of a lattice tetrahedron.
 pub fn frame_of(tet: &Tet) -> &'static Frame

@@ -10,7 +10,7 @@ ghost use Rattle.std.specs.List.{list_all};
 ghost use Rattle.definitions.specs.Pieces.{pieces as pieces_of, corner_key};
 ghost use Rattle.lattice_laws.specs.NumberedTetrahedra.{IsNumberedTet, is_corner, rank};
 ghost use Rattle.definitions.specs.Stencils.{corners, same_corner};
-ghost use Rattle.stencils.specs.Cases.{has_places, listed};
+ghost use Rattle.stencils.specs.Cases.{IsCase, has_places, listed};
 ghost use Rattle.stencils.specs.Frames.{ten_keys, are_directions};
 
 mod cases;
@@ -18,10 +18,12 @@ mod filled;
 mod frames;
 
 pub use bcc_lattice::Tet;
-use cases::{Case, Row, row_of_signs};
+pub use cases::Case;
+use cases::{Row, row_of_signs};
 pub use definitions::{Corner, Sign, Vertex};
 pub use filled::Pieces;
 use frames::frame_of;
+pub use frames::{Frame, frame_of_kind};
 
 /// The pieces of a lattice tetrahedron with these signs: the keys of their nodes, oriented and in order.
 ///
@@ -100,6 +102,14 @@ fn is_same(a: Corner, b: Corner) -> bool
     }
 }
 
+/// The pieces with these signs of a lattice tetrahedron whose volume is below zero, or of one whose volume is above.
+#[inline(always)]
+pub fn case_of_signs(signs: [Sign; 4], is_turned: bool) -> &'static Case
+    ensures { IsCase is_turned signs result.now }
+{
+    case_of(row_of_signs(signs), is_turned)
+}
+
 fn case_of(row: &'static Row, is_turned: bool) -> &'static Case
     ensures { result.now ≡ (if is_turned then row.now.turned else row.now.straight) }
 {
@@ -141,24 +151,26 @@ fn keys_of_case(keys: &[u32; 10], case: &Case) -> Pieces
     if case.len == 1 {
         return Pieces {
             len: 1,
-            of: [keys_at(keys, p), [0; 4], [0; 4]],
+            of: [at_places(keys, p), [0; 4], [0; 4]],
         };
     }
     Pieces {
         len: case.len,
-        of: [keys_at(keys, p), keys_at(keys, q), keys_at(keys, r)],
+        of: [at_places(keys, p), at_places(keys, q), at_places(keys, r)],
     }
 }
 
-fn keys_at(keys: &[u32; 10], places: [u8; 4]) -> [u32; 4]
+/// Those of ten that stand in four places, as the keys, or the numbers, of the nodes of a piece.
+#[inline(always)]
+pub fn at_places(ten: &[u32; 10], places: [u8; 4]) -> [u32; 4]
     requires { IsTrue (list_all (λ n. nat_lt n 10) places) }
-    ensures { result ≡ map (λ n. slice_index keys.now n) places }
+    ensures { result ≡ map (λ n. slice_index ten.now n) places }
 {
     let [a, b, c, d] = places;
     [
-        keys[usize::from(a)],
-        keys[usize::from(b)],
-        keys[usize::from(c)],
-        keys[usize::from(d)],
+        ten[usize::from(a)],
+        ten[usize::from(b)],
+        ten[usize::from(c)],
+        ten[usize::from(d)],
     ]
 }

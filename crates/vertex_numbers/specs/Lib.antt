@@ -8,3 +8,4 @@ pub mod Steps
 pub mod Rows
 pub mod Offsets
 pub mod Numbering
+pub mod VertexNodes

@@ -12,6 +12,7 @@ mod runs;
 mod source;
 mod starts;
 mod steps;
+mod vertex_nodes;
 mod walk;
 
 pub use around::signs_around;
@@ -22,4 +23,5 @@ pub use offsets::Offsets;
 pub use pieces::pieces_up;
 pub use source::StateSource;
 pub use starts::{Numbered, Starts};
+pub use vertex_nodes::VertexNodes;
 pub use walk::Walk;

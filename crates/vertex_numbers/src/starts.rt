@@ -8,10 +8,12 @@ ghost use Rattle.node_laws.specs.Used.{told};
 ghost use Rattle.vertex_numbers.specs.Counts.{layer_counts, row_start};
 ghost use Rattle.vertex_numbers.specs.Numbering.{HasRoom, HoldsKey, IsDraft, IsEmpty, NumbersIds, NumbersMesh, mesh_bits, nodes_before, number_in, used_in};
 ghost use Rattle.vertex_numbers.specs.Rows.{AreAlikeWithin, IsRow, sign_if_plus};
+ghost use Rattle.vertex_numbers.specs.VertexNodes.{AreNodesAt};
 
 use crate::Offsets;
 use crate::nodes::nodes_at;
 use crate::runs::{Row, Run, row_of, run_after};
+use crate::vertex_nodes::VertexNodes;
 use bcc_lattice::{columns, ids_below, layers, rows, vertex_in_row};
 use snap_rule::States;
 use st_base::{Dims, NoMemory, Vertex};
@@ -401,6 +403,20 @@ impl Starts {
         ensures { result ≡ number_in self.now (8 * id) }
     {
         self.before[(id - self.first) as usize]
+    }
+
+    /// The nodes at one of these vertices.
+    #[inline(always)]
+    pub fn vertex_nodes(&self, id: u32) -> VertexNodes
+        requires low { self.now.first ≤ id }
+        requires high { id < self.now.first + self.now.len }
+        ensures { AreNodesAt self.now id result }
+    {
+        let at = (id - self.first) as usize;
+        VertexNodes {
+            before: self.before[at],
+            bits: self.nodes[at],
+        }
     }
 
     /// The number of a node of one of these vertices.

@@ -14,11 +14,11 @@ vertex_number-own-requires-clause-high c =
 
 pub numbers_at-later-requires-clause-low : goal.numbers_at-later-requires-clause-low
 numbers_at-later-requires-clause-low c =
-    (later_held c.args.states.now.dims c.args.states.now.states c.requires.padded c.args.starts.now c.args.v.h c.requires.numbers c.args.v c.args.ids.now c.requires.domain refl c.requires.whole).0
+    (later_held c.args.states.now.dims c.args.states.now.states c.requires.padded c.args.starts.now c.args.v.h c.requires.numbers c.args.v c.args.ids.now c.requires.domain refl c.requires.whole.later).0
 
 pub numbers_at-later-requires-clause-high : goal.numbers_at-later-requires-clause-high
 numbers_at-later-requires-clause-high c =
-    (later_held c.args.states.now.dims c.args.states.now.states c.requires.padded c.args.starts.now c.args.v.h c.requires.numbers c.args.v c.args.ids.now c.requires.domain refl c.requires.whole).1
+    (later_held c.args.states.now.dims c.args.states.now.states c.requires.padded c.args.starts.now c.args.v.h c.requires.numbers c.args.v c.args.ids.now c.requires.domain refl c.requires.whole.later).1
 
 pub returns-clause-plus : goal.returns-clause-plus
 returns-clause-plus c =

@@ -1,14 +1,8 @@
-use Rattle.std.proofs.Common.{◌≡◌, false, ap, sym, subst, ◌∙◌, map, All, List, ℕ}
-use Rattle.std.specs.List.{list_any}
+use Rattle.std.proofs.Common.{sym, subst, All, List, ℕ}
 use Rattle.std.specs.Prelude.{OnOk}
-use Rattle.definitions.specs.Lattice.{id}
-use Rattle.definitions.specs.Mesh.{all_pieces, node_keys, number_of, occurs}
-use Rattle.mesh_lists.specs.Parts.{keys_of_vertex}
-use Rattle.mesh_lists.proofs.Layers.{layer_used}
-use Rattle.mesh_lists.proofs.LowestNodes.{vertex_without}
 use Rattle.slab_texts.specs.Texts.{Adds, AreAmong, AreMeasuredIn}
 use Rattle.mesh_lists.proofs.Layers.{numbers_layers}
-use Rattle.slab_texts.proofs.Pieces.{all_among, none}
+use Rattle.slab_texts.proofs.Pieces.{all_among}
 use Rattle.slab_texts.proofs.Stars.{are_star}
 use Rattle.slab_texts.proofs.tetrahedra.push_from.Goals as goal
 

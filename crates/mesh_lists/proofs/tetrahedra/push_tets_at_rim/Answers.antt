@@ -8,7 +8,7 @@ use Rattle.definitions.specs.declared.Vertex.{Vertex}
 use Rattle.lattice_laws.specs.Ascending.{Has}
 use Rattle.lattice_laws.proofs.Sublists.{has_at}
 use Rattle.mesh_lists.proofs.Pieces.{ids_fit, tet_at, tets_count, tets_more}
-use Rattle.mesh_lists.proofs.tetrahedra.push_tets_from.Goals as goal
+use Rattle.mesh_lists.proofs.tetrahedra.push_tets_at_rim.Goals as goal
 
 pub push_pieces-requires-clause-lowest : goal.push_pieces-requires-clause-lowest
 push_pieces-requires-clause-lowest c =

@@ -2,7 +2,7 @@ use Rattle.std.proofs.Common.{◌≡◌, ◌++◌, map, take}
 use Rattle.std.specs.Prelude.{flat_map}
 use Rattle.definitions.specs.Mesh.{node_keys, number_of, tet_pieces}
 use Rattle.definitions.specs.Tetrahedra.{tets_from}
-use Rattle.mesh_lists.proofs.tetrahedra.push_tets_from.Given as goal
+use Rattle.mesh_lists.proofs.tetrahedra.push_tets_at_rim.Given as goal
 
 abbrev pub invariant-loop-n : goal.invariant-loop-n
 invariant-loop-n l =
