@@ -103,7 +103,7 @@ fn push_case(numbers: &[u32; 10], case: &Case, tets: &mut Vec<[u32; 4]>) -> Resu
     Ok(())
 }
 
-/// The pieces of a lattice tetrahedron with this frame and these vertices, which go up.
+/// The pieces of a lattice tetrahedron with this frame and these vertices, the lowest first.
 #[inline(always)]
 fn push_framed(
     frame: &Frame,
