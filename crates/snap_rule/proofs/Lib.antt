@@ -2,5 +2,6 @@ pub mod Alike
 pub mod Codes
 pub mod Divisions
 pub mod Places
+pub mod Thresholds
 pub mod Values
 pub mod ValuesAround

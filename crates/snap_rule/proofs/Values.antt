@@ -18,7 +18,7 @@ read a p = to_z-of_z w64 a (fits_signed_from_abs w64 a (omega arith))
 
 -- ---- none of the values has the other sign
 
-opposite_back : (a b : Sign) → are_opposite a b ≡ are_opposite b a
+pub opposite_back : (a b : Sign) → are_opposite a b ≡ are_opposite b a
 opposite_back Minus Minus = refl
 opposite_back Minus Zero = refl
 opposite_back Minus Plus = refl
@@ -62,3 +62,7 @@ state_alike s own values h =
 pub state_nearest : (s : Shares) (own : ℤ) (values : List ℤ) (o : Option Near) → o ≡ least_by is_nearer (nears_here s own values) → snapped (sign_of own) o ≡ state_here s own values
 unfolding state_here
 state_nearest s own values o e = ap (snapped (sign_of own)) e
+
+pub state_zero : (s : Shares) (own : ℤ) (values : List ℤ) (o : Option Near) → own ≡ pos 0 → snapped (sign_of own) o ≡ state_here s own values
+unfolding state_here
+state_zero s own values o e = ap (λ z. snapped (sign_of z) o) e ∙ sym (ap (λ z. snapped (sign_of z) (least_by is_nearer (nears_here s own values))) e)

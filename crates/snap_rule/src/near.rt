@@ -1,16 +1,14 @@
-ghost use Rattle.std.specs.Prelude.{◌≡◌, ◌+◌, ◌-◌, ◌*◌, ◌/◌, ◌^◌, ◌<◌, ◌≤◌, nat_le, if◌then◌else◌, pos, unsigned_abs, IfSome, length, slice_index_or, All};
-ghost use Rattle.std.specs.List.{list_any};
-ghost use Rattle.definitions.specs.Cuts.{are_opposite, cut_between};
+ghost use Rattle.std.specs.Prelude.{◌≡◌, ℕ, ◌+◌, ◌-◌, ◌*◌, ◌/◌, ◌^◌, ◌<◌, ◌≤◌, if◌then◌else◌, pos, unsigned_abs, IfSome};
+ghost use Rattle.definitions.specs.Cuts.{cut_between};
 ghost use Rattle.definitions.specs.Lattice.{is_long};
-ghost use Rattle.definitions.specs.Lists.{least_by, lesser, with_one_more};
-ghost use Rattle.definitions.specs.States.{direction_of, is_nearer, near_at, snapped, IsState};
-ghost use Rattle.definitions.specs.Values.{sign_of};
-ghost use Rattle.snap_laws.specs.Around.{distance_of_cut, near_here, nears_here, rank, state_here};
-ghost use Rattle.snap_rule.specs.Near.{IsNearCut};
+ghost use Rattle.definitions.specs.Lists.{lesser, with_one_more};
+ghost use Rattle.definitions.specs.States.{Shares as SharesOfEdges, direction_of, is_nearer, is_up};
+ghost use Rattle.snap_laws.specs.Around.{distance_of_cut, near_here, rank};
+ghost use Rattle.snap_rule.specs.Near.{AreSmall, AreThresholds, IsNearCut, IsThreshold, cut_here, factor_of, is_reached};
 
 use crate::Shares;
 use cut_points::reach2;
-use definitions::{Near, State};
+use definitions::Near;
 
 /// The direction of an edge 1 to 14 at a vertex.
 pub fn direction_of(edge: u8) -> u8
@@ -46,71 +44,129 @@ fn distance(edge: u8, k: u16) -> u16
     if edge <= 7 { k } else { 4096 - k }
 }
 
-/// Whether the cut `whole / part` of an edge is within a share of it. It divides nothing.
-#[tactic(auto, using(crate::proofs::Divisions::near_from_below, crate::proofs::Divisions::near_from_above))]
-fn is_near(edge: u8, share: u16, whole: u64, part: u64) -> bool
-    requires share { share ≤ 2047 }
-    requires part_some { 0 < part }
-    requires part_small { part ≤ 2 ^ 42 }
-    ensures { result ≡ nat_le (distance_of_cut edge (whole / part)) share }
+/// What tells which cuts on edges of one length are near a vertex, with no division: the value at the
+/// other end times `factor` is above `least` there, or on an edge downwards at least as much.
+#[derive(Clone, Copy)]
+pub struct Threshold {
+    factor: i64,
+    least: i64,
+}
+
+/// The thresholds of a vertex on long and on short edges.
+#[derive(Clone, Copy)]
+pub struct Thresholds {
+    long: Threshold,
+    short: Threshold,
+}
+
+/// By what the value at the other end of an edge is multiplied.
+#[tactic(auto, using(crate::proofs::Thresholds::factor_below, crate::proofs::Thresholds::factor_above))]
+fn factor_of(own: i64, share: u16) -> i64
+    requires { share ≤ 2047 }
+    ensures value { result ≡ factor_of own share }
+    ensures small { unsigned_abs result ≤ 2 ^ 12 }
 {
-    if edge <= 7 {
-        whole < part * (share as u64 + 1)
-    } else {
-        part * (4096 - share as u64) <= whole
+    let factor = (2 * share + 1) as i64;
+    if own < 0 { factor } else { -factor }
+}
+
+impl Threshold {
+    /// The threshold of a vertex with a value, on edges of which a share is near.
+    fn new(own: i64, share: u16) -> Threshold
+        requires own { unsigned_abs own ≤ 2 ^ 40 }
+        requires share { share ≤ 2047 }
+        ensures value { IsThreshold own share result }
+        ensures small { unsigned_abs result.factor ≤ 2 ^ 12 }
+    {
+        Threshold {
+            factor: factor_of(own, share),
+            least: (own.unsigned_abs() * (8191 - 2 * share) as u64) as i64,
+        }
+    }
+
+    /// Whether the value at the other end of an edge makes a near cut.
+    fn is_reached(self, other: i64, edge: u8) -> bool
+        requires factor { unsigned_abs self.factor ≤ 2 ^ 12 }
+        requires other { unsigned_abs other ≤ 2 ^ 40 }
+        ensures { result ≡ is_reached self other edge }
+    {
+        let product = self.factor * other;
+        if edge <= 7 {
+            self.least < product
+        } else {
+            self.least <= product
+        }
     }
 }
 
-/// The near cut on an edge whose values at its lower and upper ends, of unlike signs, have these sizes.
+impl Thresholds {
+    /// The thresholds of a vertex with a value.
+    pub fn new(shares: Shares, own: i64) -> Thresholds
+        requires own { unsigned_abs own ≤ 2 ^ 40 }
+        ensures values { AreThresholds own shares result }
+        ensures small { AreSmall result }
+    {
+        Thresholds {
+            long: Threshold::new(own, shares.share(true)),
+            short: Threshold::new(own, shares.share(false)),
+        }
+    }
+
+    fn on(self, edge: u8) -> Threshold
+        ensures { result ≡ (if is_long (direction_of edge) then self.long else self.short) }
+    {
+        if is_long(direction_of(edge)) {
+            self.long
+        } else {
+            self.short
+        }
+    }
+}
+
+/// The number of the cut between values of these sizes.
 #[tactic(auto, unfolding(definitions::specs::Cuts::cut_between), using(crate::proofs::Divisions::quotient_small))]
-fn near_cut(shares: Shares, edge: u8, lower: u64, upper: u64) -> Option<Near>
+fn cut_between(lower: u64, upper: u64) -> u16
+    requires some { 0 < lower + upper }
+    requires lower { lower ≤ 2 ^ 40 }
+    requires upper { upper ≤ 2 ^ 40 }
+    ensures value { result ≡ cut_between lower upper }
+    ensures small { result ≤ 4096 }
+{
+    ((8192 * lower + lower + upper) / (2 * (lower + upper))) as u16
+}
+
+/// The number of the cut on an edge, from the sizes of the values at the vertex and at the other end.
+fn cut_on(edge: u8, own: u64, other: u64) -> u16
+    requires some { 0 < own }
+    requires own { own ≤ 2 ^ 40 }
+    requires other { other ≤ 2 ^ 40 }
+    ensures value { result ≡ (if is_up edge then cut_between own other else cut_between other own) }
+    ensures small { result ≤ 4096 }
+{
+    if edge <= 7 {
+        cut_between(own, other)
+    } else {
+        cut_between(other, own)
+    }
+}
+
+/// The cut on edge 1 to 14 of a vertex, from its value and the one at the other end.
+pub fn cut(own: i64, other: i64, edge: u8) -> Near
     requires edge_low { 1 ≤ edge }
     requires edge_high { edge ≤ 14 }
-    requires lower_some { 0 < lower }
-    requires lower_small { lower ≤ 2 ^ 40 }
-    requires upper_small { upper ≤ 2 ^ 40 }
-    ensures near { result ≡ near_at shares edge (cut_between lower upper) (distance_of_cut edge (cut_between lower upper)) (rank edge) }
-    ensures cut { IfSome result IsNearCut }
+    requires some { 0 < unsigned_abs own }
+    requires own { unsigned_abs own ≤ 2 ^ 40 }
+    requires other { unsigned_abs other ≤ 2 ^ 40 }
+    ensures value { result ≡ cut_here own other edge }
+    ensures cut { IsNearCut result }
 {
     let long = is_long(direction_of(edge));
-    let whole = 8192 * lower + lower + upper;
-    let part = 2 * (lower + upper);
-    if !is_near(edge, shares.share(long), whole, part) {
-        return None;
-    }
-    let k = (whole / part) as u16;
-    Some(Near {
+    let k = cut_on(edge, own.unsigned_abs(), other.unsigned_abs());
+    Near {
         edge,
         k,
         square: reach2(long, distance(edge, k)),
         key: rank(edge),
-    })
-}
-
-pub fn are_opposite(a: i64, b: i64) -> bool
-    ensures { result ≡ are_opposite (sign_of a) (sign_of b) }
-{
-    (a > 0 && b < 0) || (a < 0 && b > 0)
-}
-
-/// The near cut on edge 1 to 14 of a vertex, from its value and the one at the other end.
-#[tactic(auto, unfolding(definitions::specs::Cuts::cut_number, snap_laws::specs::Around::near_here))]
-pub fn near_on(shares: Shares, own: i64, other: i64, edge: u8) -> Option<Near>
-    requires edge_low { 1 ≤ edge }
-    requires edge_high { edge ≤ 14 }
-    requires own { unsigned_abs own ≤ 2 ^ 40 }
-    requires other { unsigned_abs other ≤ 2 ^ 40 }
-    ensures near { result ≡ near_here shares own other edge }
-    ensures cut { IfSome result IsNearCut }
-{
-    if !are_opposite(own, other) {
-        return None;
-    }
-    let (a, b) = (own.unsigned_abs(), other.unsigned_abs());
-    if edge <= 7 {
-        near_cut(shares, edge, a, b)
-    } else {
-        near_cut(shares, edge, b, a)
     }
 }
 
@@ -120,8 +176,11 @@ fn is_nearer(a: Near, b: Near) -> bool
     a.square < b.square || (a.square == b.square && a.key < b.key)
 }
 
-fn nearer(best: Option<Near>, near: Near) -> Near
-    ensures { result ≡ lesser is_nearer best near }
+pub fn nearer(best: Option<Near>, near: Near) -> Near
+    requires best { IfSome best IsNearCut }
+    requires near { IsNearCut near }
+    ensures least { result ≡ lesser is_nearer best near }
+    ensures cut { IsNearCut result }
 {
     match best {
         None => near,
@@ -129,14 +188,9 @@ fn nearer(best: Option<Near>, near: Near) -> Near
     }
 }
 
-pub fn with_one_more(best: Option<Near>, near: Option<Near>) -> Option<Near>
-    requires best { IfSome best IsNearCut }
-    requires near { IfSome near IsNearCut }
-    ensures least { result ≡ with_one_more is_nearer best near }
-    ensures cut { IfSome result IsNearCut }
+/// Whether the value at the other end of edge 1 to 14 makes a near cut.
+#[inline(always)]
+pub fn is_near(thresholds: Thresholds, other: i64, edge: u8) -> bool
 {
-    match near {
-        None => best,
-        Some(near) => Some(nearer(best, near)),
-    }
+    thresholds.on(edge).is_reached(other, edge)
 }

@@ -1,6 +1,4 @@
 ghost use Rattle.std.specs.Prelude.{◌≡◌, ◌^◌, ◌<◌, ◌≤◌, pos, unsigned_abs, IfSome, length, slice_index_or, All};
-ghost use Rattle.std.specs.List.{list_any};
-ghost use Rattle.definitions.specs.Cuts.{are_opposite};
 ghost use Rattle.definitions.specs.Lists.{least_by};
 ghost use Rattle.definitions.specs.States.{is_nearer, snapped, IsState};
 ghost use Rattle.definitions.specs.Values.{sign_of};
@@ -8,7 +6,7 @@ ghost use Rattle.snap_laws.specs.Around.{nears_here, state_here};
 ghost use Rattle.snap_rule.specs.Near.{IsNearCut, IsSmallValue};
 
 use crate::Shares;
-use crate::near::{are_opposite, near_on, with_one_more};
+use crate::near::{Thresholds, is_near, nearer, cut};
 use definitions::{Near, State};
 
 fn number(numbers: &[i64], n: usize) -> i64
@@ -20,27 +18,27 @@ fn number(numbers: &[i64], n: usize) -> i64
     numbers[n]
 }
 
-/// Whether one of the values has the other sign.
-fn has_opposite(own: i64, values: &[i64]) -> bool
-    ensures { result ≡ list_any (λ z. are_opposite (sign_of own) (sign_of z)) values.now }
-{
-    values.iter().any(|z| are_opposite(own, *z))
-}
-
 /// The nearest near cut, from the values at the other ends of edges 1 to 14.
 fn nearest(shares: Shares, own: i64, values: &[i64]) -> Option<Near>
     requires len { length values.now ≡ 14 }
+    requires some { 0 < unsigned_abs own }
     requires own { unsigned_abs own ≤ 2 ^ 40 }
     requires small { All IsSmallValue values.now }
     ensures least { result ≡ least_by is_nearer (nears_here shares own values.now) }
     ensures cut { IfSome result IsNearCut }
 {
-    let mut best: Option<Near> = None;
+    let thresholds = Thresholds::new(shares, own);
+    let mut reached = 0u32;
     for n in 0..14u8 {
-        best = with_one_more(
-            best,
-            near_on(shares, own, number(values, n as usize), 1 + n),
-        );
+        if is_near(thresholds, number(values, n as usize), 1 + n) {
+            reached |= 1 << n;
+        }
+    }
+    let mut best: Option<Near> = None;
+    while reached != 0 {
+        let n = reached.trailing_zeros() as u8;
+        best = Some(nearer(best, cut(own, number(values, n as usize), 1 + n)));
+        reached &= reached - 1;
     }
     best
 }
@@ -72,9 +70,9 @@ pub fn state_of_values(shares: Shares, own: i64, values: &[i64]) -> State
     ensures state { result ≡ state_here shares own values.now }
     ensures is_state { IsState result }
 {
-    if has_opposite(own, values) {
-        snapped(own, nearest(shares, own, values))
-    } else {
+    if own == 0 {
         snapped(own, None)
+    } else {
+        snapped(own, nearest(shares, own, values))
     }
 }

@@ -19,14 +19,14 @@ pub loop-n-preserved : goal.loop-n-preserved
 loop-n-preserved c =
     let own = to_z w64 (of_z w64 c.args.own) in
     rw add-one (
-      c.with_one_more-best.ensures.least ∙ ap (λ o. with_one_more is_nearer o c.near_on.result) c.loop-n.invariant.0
+      c.nearest_with-best.ensures.least c.args.shares c.new-thresholds.ensures.values
+          ∙ ap (λ o. with_one_more is_nearer o (near_here c.args.shares own (to_z w64 (of_z w64 c.number.result)) (1 + c.loop-n.n))) c.loop-n.invariant.0
           ∙ ap (with_one_more is_nearer _)
-          (c.near_on.ensures.near
-          ∙ (λ i. near_here c.args.shares own (read c.number.result c.number.ensures.small i) (1 + c.loop-n.n))
+          ((λ i. near_here c.args.shares own (read c.number.result c.number.ensures.small i) (1 + c.loop-n.n))
           ∙ (λ i. near_here c.args.shares own (c.number.ensures.value i) (1 + c.loop-n.n))
           ∙ (λ i. near_here c.args.shares own (slice_index_or c.args.values.now (sym (place c.loop-n.n) i) (pos 0)) (1 + c.loop-n.n)))
           ∙ sym (least_by-range is_nearer (λ edge. near_here c.args.shares own (value_on c.args.values.now edge) edge) 1 c.loop-n.n),
-      c.with_one_more-best.ensures.cut,
+      c.nearest_with-best.ensures.cut,
     )
 
 pub returns-clause-least : goal.returns-clause-least
