@@ -1,10 +1,11 @@
 -- Which cuts are near, by a product and a comparison.
 use Rattle.std.proofs.Common.{◌≡◌, ℕ, zero, suc, ◌+◌, ◌-◌, ◌*◌, ◌<◌, ◌≤◌, arith, refl, sym, ◌∙◌, ap, Bool, true, false, not, ◌&&◌, nat_lt, nat_le, ℤ, pos, negsuc, neg_ℤ, ◌*ℤ◌, ◌<ℤ◌, ◌≤ℤ◌, Some, None}
-use Rattle.std.specs.Prelude.{unsigned_abs, int_lt, if◌then◌else◌, option_and_then}
-use Rattle.std.proofs.lemmas.Bool.{le-leb, leb-true, lt-ltb, ltb-true}
+use Rattle.std.specs.Prelude.{Option, is_some, unsigned_abs, int_lt, if◌then◌else◌, option_and_then}
+use Rattle.std.proofs.lemmas.Bool.{true≢false, le-leb, leb-true, lt-ltb, ltb-true}
 use Rattle.std.proofs.lemmas.Bool.Decides.{nat_tests}
 use Rattle.std.proofs.lemmas.Int.{ints}
 use Rattle.list_words.proofs.Tests.{same_tests}
+use Rattle.definitions.specs.declared.Near.{Near}
 use Rattle.definitions.specs.Cuts.{are_opposite, cut_between, cut_number}
 use Rattle.definitions.specs.Lattice.{is_long}
 use Rattle.definitions.specs.States.{Shares, direction_of, is_up, near_at, share, square_of}
@@ -12,7 +13,7 @@ use Rattle.definitions.specs.Values.{sign_of}
 use Rattle.snap_laws.specs.Around.{distance_of_cut, near_here, rank}
 use Rattle.snap_rule.specs.declared.near.Threshold.{Threshold}
 use Rattle.snap_rule.specs.declared.near.Thresholds.{Thresholds}
-use Rattle.snap_rule.specs.Near.{AreThresholds, IsThreshold, cut_here, factor_of, is_near, is_reached, number_here}
+use Rattle.snap_rule.specs.Near.{AreThresholds, IsThreshold, cut_here, factor_of, is_near, is_near_by, is_reached, number_here}
 use Rattle.snap_rule.proofs.Divisions.{near_from_below, near_from_above}
 use Rattle.snap_rule.proofs.Values.{opposite_back}
 
@@ -164,3 +165,20 @@ near_by_threshold own other edge t here r some on e s are =
     ∙ ap (λ b. if b then Some (cut_here own other edge) else None)
     (sym (reached own other edge (share s (direction_of edge)) (if is_long (direction_of edge) then t.long else t.short) some (picked own s t are (is_long (direction_of edge))))
     ∙ sym (e ∙ ap (λ x. is_reached x other edge) on))
+
+-- the near cut on an edge that has one
+pub cut_if_near : (s : Shares) (own other : ℤ) (edge : ℕ) → is_some (near_here s own other edge) ≡ true → near_here s own other edge ≡ Some (cut_here own other edge)
+cut_if_near s own other edge = go (near_here s own other edge) (is_near (share s (direction_of edge)) own other edge) (near_if s own other edge)
+  where
+    go : (o : Option Near) (b : Bool) → o ≡ (if b then Some (cut_here own other edge) else None) → is_some o ≡ true → o ≡ Some (cut_here own other edge)
+    go o true e h = e
+    go o false e h = absurd (true≢false (sym h ∙ ap is_some e))
+
+-- whether an edge has one, by its threshold
+pub is_near_by_threshold : (s : Shares) (own other : ℤ) (edge : ℕ) (t : Thresholds) → 0 < unsigned_abs own → AreThresholds own s t → is_near_by t other edge ≡ is_some (near_here s own other edge)
+is_near_by_threshold s own other edge t some are =
+    go (is_near_by t other edge) ∙ sym (ap is_some (near_by_threshold own other edge t _ (is_near_by t other edge) some refl refl s are))
+  where
+    go : (b : Bool) → b ≡ is_some (if b then Some (cut_here own other edge) else None)
+    go true = refl
+    go false = refl

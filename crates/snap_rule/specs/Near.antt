@@ -60,3 +60,7 @@ pub record AreSmall (t : Thresholds) : Type 0 where
 -- the value at the other end is beyond the threshold, or on an edge downwards at it
 abbrev pub is_reached : Threshold → ℤ → ℕ → Bool
 is_reached t other edge = if is_up edge then int_lt t.least (t.factor *ℤ other) else not (int_lt (t.factor *ℤ other) t.least)
+
+-- the value at the other end of edge 1 to 14 makes a near cut
+abbrev pub is_near_by : Thresholds → ℤ → ℕ → Bool
+is_near_by t other edge = is_reached (if is_long (direction_of edge) then t.long else t.short) other edge

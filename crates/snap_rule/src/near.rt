@@ -4,7 +4,7 @@ ghost use Rattle.definitions.specs.Lattice.{is_long};
 ghost use Rattle.definitions.specs.Lists.{lesser, with_one_more};
 ghost use Rattle.definitions.specs.States.{Shares as SharesOfEdges, direction_of, is_nearer, is_up};
 ghost use Rattle.snap_laws.specs.Around.{distance_of_cut, near_here, rank};
-ghost use Rattle.snap_rule.specs.Near.{AreSmall, AreThresholds, IsNearCut, IsThreshold, cut_here, factor_of, is_reached};
+ghost use Rattle.snap_rule.specs.Near.{AreSmall, AreThresholds, IsNearCut, IsThreshold, cut_here, factor_of, is_near_by, is_reached};
 
 use crate::Shares;
 use cut_points::reach2;
@@ -191,6 +191,9 @@ pub fn nearer(best: Option<Near>, near: Near) -> Near
 /// Whether the value at the other end of edge 1 to 14 makes a near cut.
 #[inline(always)]
 pub fn is_near(thresholds: Thresholds, other: i64, edge: u8) -> bool
+    requires thresholds { AreSmall thresholds }
+    requires other { unsigned_abs other ≤ 2 ^ 40 }
+    ensures { result ≡ is_near_by thresholds other edge }
 {
     thresholds.on(edge).is_reached(other, edge)
 }

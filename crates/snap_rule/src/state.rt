@@ -1,8 +1,9 @@
-ghost use Rattle.std.specs.Prelude.{◌≡◌, ◌^◌, ◌<◌, ◌≤◌, pos, unsigned_abs, IfSome, length, slice_index_or, All};
+ghost use Rattle.std.specs.Int.{bit_at, from_bool};
+ghost use Rattle.std.specs.Prelude.{◌≡◌, ℕ, ◌+◌, ◌^◌, ◌<◌, ◌≤◌, pos, unsigned_abs, is_some, IfSome, length, slice_index_or, All};
 ghost use Rattle.definitions.specs.Lists.{least_by};
 ghost use Rattle.definitions.specs.States.{is_nearer, snapped, IsState};
 ghost use Rattle.definitions.specs.Values.{sign_of};
-ghost use Rattle.snap_laws.specs.Around.{nears_here, state_here};
+ghost use Rattle.snap_laws.specs.Around.{near_here, nears_here, state_here};
 ghost use Rattle.snap_rule.specs.Near.{IsNearCut, IsSmallValue};
 
 use crate::Shares;
@@ -18,6 +19,26 @@ fn number(numbers: &[i64], n: usize) -> i64
     numbers[n]
 }
 
+/// Which of edges 1 to 14 have near cuts, as bits 0 to 13.
+#[inline(always)]
+fn near_edges(shares: Shares, own: i64, values: &[i64]) -> u32
+    requires len { length values.now ≡ 14 }
+    requires some { 0 < unsigned_abs own }
+    requires own { unsigned_abs own ≤ 2 ^ 40 }
+    requires small { All IsSmallValue values.now }
+    ensures each { (n : ℕ) → n < 14 → bit_at result n ≡ from_bool (is_some (near_here shares own (slice_index_or values.now n (pos 0)) (1 + n))) }
+    ensures none { (n : ℕ) → 14 ≤ n → bit_at result n ≡ 0 }
+{
+    let thresholds = Thresholds::new(shares, own);
+    let mut near = 0u32;
+    for n in 0..14u8 {
+        if is_near(thresholds, number(values, n as usize), 1 + n) {
+            near |= 1 << n;
+        }
+    }
+    near
+}
+
 /// The nearest near cut, from the values at the other ends of edges 1 to 14.
 fn nearest(shares: Shares, own: i64, values: &[i64]) -> Option<Near>
     requires len { length values.now ≡ 14 }
@@ -27,18 +48,12 @@ fn nearest(shares: Shares, own: i64, values: &[i64]) -> Option<Near>
     ensures least { result ≡ least_by is_nearer (nears_here shares own values.now) }
     ensures cut { IfSome result IsNearCut }
 {
-    let thresholds = Thresholds::new(shares, own);
-    let mut reached = 0u32;
-    for n in 0..14u8 {
-        if is_near(thresholds, number(values, n as usize), 1 + n) {
-            reached |= 1 << n;
-        }
-    }
+    let mut left = near_edges(shares, own, values);
     let mut best: Option<Near> = None;
-    while reached != 0 {
-        let n = reached.trailing_zeros() as u8;
+    while left != 0 {
+        let n = left.trailing_zeros() as u8;
+        left &= !(1 << n);
         best = Some(nearer(best, cut(own, number(values, n as usize), 1 + n)));
-        reached &= reached - 1;
     }
     best
 }
