@@ -10,6 +10,10 @@ use Rattle.definitions.specs.Lists.{least_by, lesser, with_one_more}
 use Rattle.lattice_laws.proofs.Least.{least_by-range}
 use Rattle.samples.proofs.SetBits.{not_both, where_is}
 
+-- the place of an edge 1 + n in a list of the values on edges 1 to 14
+pub place : (n : ℕ) → 1 + n - 1 ≡ n
+place n = omega arith
+
 -- ---- bits as booleans
 
 is_set : (b : Bool) → from_bool b ≡ 1 → b ≡ true
@@ -102,8 +106,9 @@ module _ {X : Type 0} (lt : X → X → Bool) (f : ℕ → Option X) where
         least = refl;
       }
 
-  pub at_last : (best : Option X) → IsLeastTaken 0 best → best ≡ least_of 14
-  at_last best t = t.least ∙ sym (skip t.place (14 - t.place) 14 (let w = t.within in omega arith) (λ k p q. none_there (f (1 + k)) (sym (t.left k p q) ∙ bit_at-zero k)))
+  pub at_last : (word : ℕ) (best : Option X) → word ≡ 0 → IsLeastTaken word best → best ≡ least_of 14
+  at_last word best e t =
+      t.least ∙ sym (skip t.place (14 - t.place) 14 (let w = t.within in omega arith) (λ k p q. none_there (f (1 + k)) (sym (t.left k p q) ∙ ap (λ w. bit_at w k) e ∙ bit_at-zero k)))
 
   module _ (word : ℕ) (best : Option X) (t : IsLeastTaken word best) (n : ℕ) (set : bit_at word n ≡ 1) where
     pub lies : n < 14

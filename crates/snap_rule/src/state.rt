@@ -3,7 +3,7 @@ ghost use Rattle.std.specs.Prelude.{◌≡◌, ℕ, ◌+◌, ◌^◌, ◌<◌, �
 ghost use Rattle.definitions.specs.Lists.{least_by};
 ghost use Rattle.definitions.specs.States.{is_nearer, snapped, IsState};
 ghost use Rattle.definitions.specs.Values.{sign_of};
-ghost use Rattle.snap_laws.specs.Around.{near_here, nears_here, state_here};
+ghost use Rattle.snap_laws.specs.Around.{near_here, nears_here, state_here, value_on};
 ghost use Rattle.snap_rule.specs.Near.{IsNearCut, IsSmallValue};
 
 use crate::Shares;
@@ -26,7 +26,7 @@ fn near_edges(shares: Shares, own: i64, values: &[i64]) -> u32
     requires some { 0 < unsigned_abs own }
     requires own { unsigned_abs own ≤ 2 ^ 40 }
     requires small { All IsSmallValue values.now }
-    ensures each { (n : ℕ) → n < 14 → bit_at result n ≡ from_bool (is_some (near_here shares own (slice_index_or values.now n (pos 0)) (1 + n))) }
+    ensures each { (n : ℕ) → n < 14 → bit_at result n ≡ from_bool (is_some (near_here shares own (value_on values.now (1 + n)) (1 + n))) }
     ensures none { (n : ℕ) → 14 ≤ n → bit_at result n ≡ 0 }
 {
     let thresholds = Thresholds::new(shares, own);
