@@ -1,11 +1,11 @@
 -- Words of which each bit tells whether an edge has a near cut, and the least of those that were taken from one.
-use Rattle.std.proofs.Common.{◌≡◌, ℕ, zero, suc, ◌+◌, ◌-◌, ◌*◌, ◌%◌, ◌^◌, ◌<◌, ◌≤◌, ◌⊎◌, inl, inr, min, arith, refl, sym, ap, ◌∙◌, w32, Bool, true, false, Option, Some, None}
+use Rattle.std.proofs.Common.{◌≡◌, ℕ, zero, suc, ◌+◌, ◌-◌, ◌*◌, ◌%◌, ◌^◌, ◌<◌, ◌≤◌, inl, inr, min, arith, refl, sym, ap, ◌∙◌, w32, Bool, true, false, Option, Some, None}
 use Rattle.std.specs.Prelude.{bit_and, bit_or, filter_map, is_some}
 use Rattle.std.specs.Int.{bit_at, bit_not, from_bool}
 use Rattle.std.specs.List.{range_with_len}
 use Rattle.std.proofs.lemmas.Bool.{cases_eq}
 use Rattle.std.proofs.lemmas.Nat.{and_le_l}
-use Rattle.std.proofs.lemmas.Nat.Bits.{bit_at-lt, bit_at-zero, bit_at_and, bit_at_set_same, bit_at_set_other, bit_at_clear_same, bit_at_clear_other}
+use Rattle.std.proofs.lemmas.Nat.Bits.{bit_at-zero, bit_at_and, bit_at_set_same, bit_at_set_other, bit_at_clear_same, bit_at_clear_other}
 use Rattle.definitions.specs.Lists.{least_by, lesser, with_one_more}
 use Rattle.lattice_laws.proofs.Least.{least_by-range}
 use Rattle.samples.proofs.SetBits.{not_both, where_is}

@@ -157,15 +157,6 @@ near_if s own other edge =
     chosen true k = refl
     chosen false k = refl
 
--- the near cut on an edge by its threshold
-pub near_by_threshold : (own other : ℤ) (edge : ℕ) (t : Thresholds) (here : Threshold) (r : Bool) → 0 < unsigned_abs own → here ≡ (if is_long (direction_of edge) then t.long else t.short) → r ≡ is_reached here other edge →
-    (s : Shares) → AreThresholds own s t → near_here s own other edge ≡ (if r then Some (cut_here own other edge) else None)
-near_by_threshold own other edge t here r some on e s are =
-    near_if s own other edge
-    ∙ ap (λ b. if b then Some (cut_here own other edge) else None)
-    (sym (reached own other edge (share s (direction_of edge)) (if is_long (direction_of edge) then t.long else t.short) some (picked own s t are (is_long (direction_of edge))))
-    ∙ sym (e ∙ ap (λ x. is_reached x other edge) on))
-
 -- the near cut on an edge that has one
 pub cut_if_near : (s : Shares) (own other : ℤ) (edge : ℕ) → is_some (near_here s own other edge) ≡ true → near_here s own other edge ≡ Some (cut_here own other edge)
 cut_if_near s own other edge = go (near_here s own other edge) (is_near (share s (direction_of edge)) own other edge) (near_if s own other edge)
@@ -175,9 +166,11 @@ cut_if_near s own other edge = go (near_here s own other edge) (is_near (share s
     go o false e h = absurd (true≢false (sym h ∙ ap is_some e))
 
 -- whether an edge has one, by its threshold
-pub is_near_by_threshold : (s : Shares) (own other : ℤ) (edge : ℕ) (t : Thresholds) → 0 < unsigned_abs own → AreThresholds own s t → is_near_by t other edge ≡ is_some (near_here s own other edge)
-is_near_by_threshold s own other edge t some are =
-    go (is_near_by t other edge) ∙ sym (ap is_some (near_by_threshold own other edge t _ (is_near_by t other edge) some refl refl s are))
+pub near_by_threshold : (s : Shares) (own other : ℤ) (edge : ℕ) (t : Thresholds) → 0 < unsigned_abs own → AreThresholds own s t → is_near_by t other edge ≡ is_some (near_here s own other edge)
+near_by_threshold s own other edge t some are =
+    reached own other edge (share s (direction_of edge)) (if is_long (direction_of edge) then t.long else t.short) some (picked own s t are (is_long (direction_of edge)))
+    ∙ go (is_near (share s (direction_of edge)) own other edge)
+    ∙ sym (ap is_some (near_if s own other edge))
   where
     go : (b : Bool) → b ≡ is_some (if b then Some (cut_here own other edge) else None)
     go true = refl

@@ -1,9 +1,9 @@
-ghost use Rattle.std.specs.Prelude.{◌≡◌, ℕ, ◌+◌, ◌-◌, ◌*◌, ◌/◌, ◌^◌, ◌<◌, ◌≤◌, if◌then◌else◌, pos, unsigned_abs, IfSome};
+ghost use Rattle.std.specs.Prelude.{◌≡◌, ◌+◌, ◌-◌, ◌*◌, ◌/◌, ◌^◌, ◌<◌, ◌≤◌, if◌then◌else◌, unsigned_abs, IfSome};
 ghost use Rattle.definitions.specs.Cuts.{cut_between};
 ghost use Rattle.definitions.specs.Lattice.{is_long};
-ghost use Rattle.definitions.specs.Lists.{lesser, with_one_more};
-ghost use Rattle.definitions.specs.States.{Shares as SharesOfEdges, direction_of, is_nearer, is_up};
-ghost use Rattle.snap_laws.specs.Around.{distance_of_cut, near_here, rank};
+ghost use Rattle.definitions.specs.Lists.{lesser};
+ghost use Rattle.definitions.specs.States.{direction_of, is_nearer, is_up};
+ghost use Rattle.snap_laws.specs.Around.{distance_of_cut, rank};
 ghost use Rattle.snap_rule.specs.Near.{AreSmall, AreThresholds, IsNearCut, IsThreshold, cut_here, factor_of, is_near_by, is_reached};
 
 use crate::Shares;

@@ -7,7 +7,7 @@ ghost use Rattle.snap_laws.specs.Around.{near_here, nears_here, state_here, valu
 ghost use Rattle.snap_rule.specs.Near.{IsNearCut, IsSmallValue};
 
 use crate::Shares;
-use crate::near::{Thresholds, is_near, nearer, cut};
+use crate::near::{Thresholds, cut, is_near, nearer};
 use definitions::{Near, State};
 
 fn number(numbers: &[i64], n: usize) -> i64

@@ -1,4 +1,4 @@
-use Rattle.std.proofs.Common.{rules, ◌≡◌, ℕ, ◌+◌, ◌<◌, ◌≤◌, ℤ, sym, ◌∙◌, ap, arith, pos, w32, w64, to_z, of_z, Some}
+use Rattle.std.proofs.Common.{rules, ◌≡◌, ℕ, ◌+◌, ℤ, sym, ◌∙◌, ap, arith, pos, w32, w64, to_z, of_z, Some}
 use Rattle.std.specs.Int.{trailing_zeros}
 use Rattle.std.specs.Prelude.{filter_map, slice_index_or}
 use Rattle.std.specs.List.{range_with_len}
@@ -42,12 +42,11 @@ loop-left-preserved c =
     c.cut.ensures.value
     ∙ (λ i. cut_here own (read c.number.result c.number.ensures.small i) (1 + n))
     ∙ (λ i. cut_here own (c.number.ensures.value i) (1 + n))
-    ∙ (λ i. cut_here own (slice_index_or c.args.values.now (sym (place n) i) (pos 0)) (1 + n)) in
-    (
+    ∙ (λ i. cut_here own (slice_index_or c.args.values.now (sym (place n) i) (pos 0)) (1 + n)) in (
       rw c.nearer.ensures.least (
-        one_less is_nearer _ c.loop-left.left c.loop-left.best c.loop-left.invariant.0 n lowest.1 lowest.2 c.cut.result
-        (cut_if_near c.args.shares own (value_on c.args.values.now (1 + n)) (1 + n) there ∙ ap Some (sym cut))
-      ),
+          one_less is_nearer _ c.loop-left.left c.loop-left.best c.loop-left.invariant.0 n lowest.1 lowest.2 c.cut.result
+          (cut_if_near c.args.shares own (value_on c.args.values.now (1 + n)) (1 + n) there ∙ ap Some (sym cut))
+          ),
       c.nearer.ensures.cut,
     )
 
